@@ -1,5 +1,9 @@
--- Document 01, "What the caller hears": the number of each refusal.
+-- Document 01, "What the caller hears": the number of each answer.
 use Prim.Native.Nat.{ℕ}
+
+-- done: no refusal
+abbrev pub done : ℕ
+done = 0
 
 -- a number is beyond its limit, and no other line names it
 abbrev pub beyondLimit : ℕ
@@ -8,6 +12,42 @@ beyondLimit = 1
 -- the payload maximum is outside 1 to 65,515, or the RTO minimum is above the maximum
 abbrev pub badBounds : ℕ
 badBounds = 2
+
+-- the stream is not open
+abbrev pub notOpen : ℕ
+notOpen = 3
+
+-- the stream is already open
+abbrev pub alreadyOpen : ℕ
+alreadyOpen = 4
+
+-- all the streams that there is room for are open
+abbrev pub streamsFull : ℕ
+streamsFull = 5
+
+-- the message is too long
+abbrev pub messageLong : ℕ
+messageLong = 6
+
+-- the buffered amount would pass its limit
+abbrev pub bufferFull : ℕ
+bufferFull = 7
+
+-- the message's ring lacks room for all its fragments
+abbrev pub ringFull : ℕ
+ringFull = 8
+
+-- the message has a fragment, and the last message number is taken
+abbrev pub numbersSpent : ℕ
+numbersSpent = 9
+
+-- the flight has room for no more than a terminator, and a chunk is pending
+abbrev pub flightFull : ℕ
+flightFull = 10
+
+-- the lent list is shorter than the list of expired TSNs
+abbrev pub listShort : ℕ
+listShort = 11
 
 -- an expiry that would be counted finds the timer's count at its limit
 abbrev pub countFull : ℕ

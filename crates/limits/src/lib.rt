@@ -1,4 +1,4 @@
-// Document 01, "Numbers" and "What the caller hears": each limit and each refusal, once, by name.
+// Document 01, "Numbers" and "What the caller hears": each limit and each refusal, once, by name; and a moment of the clock.
 
 // The clock, in milliseconds; also a deadline that is set directly.
 pub const CLOCK_MAX: u64 = 1_099_511_627_776;
@@ -6,10 +6,48 @@ pub const CLOCK_MAX: u64 = 1_099_511_627_776;
 pub const SETTING_MAX: u64 = 4_294_967_295;
 // Expiries that a timer counts.
 pub const COUNT_MAX: u32 = 4_294_967_295;
+// Streams that are open at once.
+pub const STREAMS: usize = 64;
+// Bytes of a chunk's payload.
+pub const PAYLOAD_MAX: u32 = 65_515;
+// Bytes of a message.
+pub const MESSAGE_MAX: u64 = 65_536;
+// The offset at which a message is given.
+pub const OFFSET_MAX: u64 = 4_294_967_295;
+// Chunks in each of the two rings of pending chunks.
+pub const RING_ROOM: usize = 256;
+// Entries in flight; the last is kept for a terminator.
+pub const FLIGHT_ROOM: usize = 256;
+// The buffered amount of a stream, in bytes.
+pub const BUFFERED_MAX: u64 = 4_294_967_295;
 
 // A number is beyond its limit, and no other line names it.
 pub const BEYOND_LIMIT: u8 = 1;
 // The payload maximum is outside 1 to 65,515, or the RTO minimum is above the maximum.
 pub const BAD_BOUNDS: u8 = 2;
+// The stream is not open.
+pub const NOT_OPEN: u8 = 3;
+// The stream is already open.
+pub const ALREADY_OPEN: u8 = 4;
+// All the streams that there is room for are open.
+pub const STREAMS_FULL: u8 = 5;
+// The message is too long.
+pub const MESSAGE_LONG: u8 = 6;
+// The buffered amount would pass its limit.
+pub const BUFFER_FULL: u8 = 7;
+// The message's ring lacks room for all its fragments.
+pub const RING_FULL: u8 = 8;
+// The message has a fragment, and the last message number is taken.
+pub const NUMBERS_SPENT: u8 = 9;
+// The flight has room for no more than a terminator, and a chunk is pending.
+pub const FLIGHT_FULL: u8 = 10;
+// The lent list is shorter than the list of expired TSNs.
+pub const LIST_SHORT: u8 = 11;
 // An expiry that would be counted finds the timer's count at its limit.
 pub const COUNT_FULL: u8 = 12;
+
+// A moment of the clock, in milliseconds, that may be missing: a deadline, or the time of a send.
+pub enum Moment {
+    Absent,
+    At(u64),
+}
