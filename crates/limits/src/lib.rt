@@ -1,4 +1,6 @@
 // Document 01, "Numbers" and "What the caller hears": each limit and each refusal, once, by name; and a moment of the clock.
+ghost use mathlib.Core.Path.{_≡_};
+ghost use Rattle.limits.specs.Moments.{passed, ahead, beyond, earlier};
 
 // The clock, in milliseconds; also a deadline that is set directly.
 pub const CLOCK_MAX: u64 = 1_099_511_627_776;
@@ -50,4 +52,50 @@ pub const COUNT_FULL: u8 = 12;
 pub enum Moment {
     Absent,
     At(u64),
+}
+
+impl Moment {
+    // A deadline is passed at its own millisecond.
+    pub fn reached(self, clock: u64) -> bool
+        ensures { λ r. ⌜ r ≡ passed clock self ⌝ }
+    {
+        match self {
+            Moment::Absent => false,
+            Moment::At(time) => time <= clock,
+        }
+    }
+
+    // Whether a timer with this deadline still runs, for a restart: one at `clock` does.
+    pub fn ahead(self, clock: u64) -> bool
+        ensures { λ r. ⌜ r ≡ ahead clock self ⌝ }
+    {
+        match self {
+            Moment::Absent => false,
+            Moment::At(time) => clock <= time,
+        }
+    }
+
+    pub fn beyond(self, limit: u64) -> bool
+        ensures { λ r. ⌜ r ≡ beyond limit self ⌝ }
+    {
+        match self {
+            Moment::Absent => false,
+            Moment::At(time) => limit < time,
+        }
+    }
+
+    pub fn earlier(self, other: Moment) -> Moment
+        ensures { λ r. ⌜ r ≡ earlier self other ⌝ }
+    {
+        let Moment::At(first) = self else {
+            return other;
+        };
+        let Moment::At(second) = other else {
+            return self;
+        };
+        if second < first {
+            return other;
+        }
+        self
+    }
 }

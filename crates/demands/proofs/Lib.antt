@@ -1,0 +1,22 @@
+-- The proofs of the claims in specs/.
+pub mod Basic
+pub mod Each
+pub mod Lists
+pub mod Tables
+pub mod Views
+pub mod Fragments
+pub mod Refused
+pub mod Tsn
+pub mod Pieces
+pub mod Chunks
+pub mod Fits
+pub mod Ring
+pub mod Valid
+pub mod Runs
+pub mod Steps
+pub mod States
+pub mod Final
+pub mod Lost
+pub mod Rest
+pub mod Waiting
+pub mod Demand3

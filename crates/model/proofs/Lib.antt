@@ -1,0 +1,2 @@
+-- The scenes of specs/, computed.
+pub mod Scenes

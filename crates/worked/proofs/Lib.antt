@@ -1,0 +1,3 @@
+-- The worked examples hold by computation.
+pub mod Worked
+pub mod Walk
