@@ -1,0 +1,60 @@
+-- The calls as document 01's: what they do to the flight and answer is what the model's do of a whole sender.
+use mathlib.Core.Path.{_≡_, refl, sym, ap}
+use mathlib.Core.Bool.{Bool, true, false, not, _&&_, _||_}
+use mathlib.Core.Option.{Option, none, some}
+use mathlib.Core.List.{List, [], _∷_, _++_}
+use Prim.Native.Nat.{ℕ, zero, suc, _+_, _%_}
+use lib.ListN.{getElem?}
+use lib.Dec.{eqb}
+use Rattle.limits.specs.Limits.{tsns}
+use Rattle.limits.specs.Moments.{passed}
+use Rattle.model.specs.declared.Chunk.{Chunk}
+use Rattle.model.specs.declared.Found.{Found}
+use Rattle.model.specs.Lists.{if_then_else_, some-of, adjust}
+use Rattle.model.specs.State.{Sender, Flight, Out, Pending as Waiting, withEntries, place, inFlight, isOf}
+use Rattle.model.specs.Rings.{expiredEntry}
+use Rattle.model.specs.Flight.{acknowledged, acknowledging, popping}
+use Rattle.payload_queue.specs.declared.Pending.{Pending}
+use Rattle.payload_queue.specs.Queue.{acked, heldIn, Pop, poppedOf, isAwaited, overdueEntry}
+
+-- a sender with another flight
+abbrev pub withFlight : Flight → Sender → Sender
+withFlight f s = record { streams = s .streams; pending = s .pending; flight = f; numbers = s .numbers }
+
+pub popping-is : (l : List Chunk) (t : ℕ) (s : Sender)
+    → popping l t s ≡ record { after = withFlight (poppedOf l t (s .flight) .flight) s; says = poppedOf l t (s .flight) .front }
+popping-is [] t s = refl
+popping-is (c ∷ l) t s = go (eqb t (s .flight .oldest))
+  where
+    popped : Pop
+    popped = record { flight = record { oldest = (s .flight .oldest + 1) % tsns; entries = l }; front = Found.One c }
+
+    stays : Pop
+    stays = record { flight = s .flight; front = Found.Nothing }
+
+    told : Pop → Out Found
+    told r = record { after = withFlight (r .flight) s; says = r .front }
+
+    go : (b : Bool) → (if b then told popped else told stays) ≡ told (if b then popped else stays)
+    go true = refl
+    go false = refl
+
+pub acknowledging-is : (t : ℕ) (s : Sender)
+    → acknowledging (inFlight t (s .flight)) t s ≡ record { after = withFlight (acked t (s .flight)) s; says = heldIn (inFlight t (s .flight)) }
+acknowledging-is t s = go (inFlight t (s .flight)) refl
+  where
+    unknown : (i : ℕ) (l : List Chunk) → getElem? l i ≡ none → adjust acknowledged i l ≡ l
+    unknown zero [] e = refl
+    unknown (suc i) [] e = refl
+    unknown zero (c ∷ l) e = let z : some c ≡ none = e in cc
+    unknown (suc i) (c ∷ l) e = ap (λ (m : List Chunk). c ∷ m) (unknown i l e)
+
+    go : (o : Option Chunk) → inFlight t (s .flight) ≡ o → acknowledging o t s ≡ record { after = withFlight (acked t (s .flight)) s; says = heldIn o }
+    go none e = sym (ap (λ (m : List Chunk). record { after = withEntries m s; says = 0 }) (unknown (place t (s .flight)) (s .flight .entries) e))
+    go (some c) e = refl
+
+-- an entry is listed as the model's, if the message that the caller names is the one that is pending
+pub overdue-is : (now : ℕ) (w : Pending) (p : Waiting) (c : Chunk) → isAwaited w (c .message .number) ≡ some-of (isOf (c .message .number)) (p .unordered ++ p .ordered)
+    → overdueEntry now w c ≡ expiredEntry now p c
+unfolding overdueEntry
+overdue-is now w p c e = ap (λ (b : Bool). not (c .abandoned) && (passed now (c .message .deadline) && (not (c .acked) || b))) e

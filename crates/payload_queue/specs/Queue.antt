@@ -1,0 +1,83 @@
+-- What the queue's numbers and cells mean, and what each call does to that flight, in the model's words.
+use mathlib.Core.Path.{_≡_}
+use mathlib.Core.Bool.{Bool, false, not, _&&_, _||_}
+use mathlib.Core.Option.{Option, none, some}
+use mathlib.Core.List.{List, [], _∷_, _++_}
+use Prim.Native.Nat.{ℕ, _+_, _%_}
+use lib.ListN.{length, drop}
+use lib.Dec.{ltb, eqb}
+use Rattle.limits.specs.Limits.{tsns}
+use Rattle.limits.specs.Refusals.{listShort}
+use Rattle.limits.specs.Moments.{passed}
+use Rattle.model.specs.declared.Chunk.{Chunk}
+use Rattle.model.specs.declared.Found.{Found}
+use Rattle.model.specs.declared.Listed.{Listed}
+use Rattle.model.specs.Lists.{if_then_else_, adjust}
+use Rattle.model.specs.State.{Flight, place}
+use Rattle.model.specs.Rings.{bytes}
+use Rattle.model.specs.Flight.{acknowledged}
+use Rattle.ring.specs.Held.{held, pushed}
+use Rattle.payload_queue.specs.declared.PayloadQueue.{PayloadQueue}
+use Rattle.payload_queue.specs.declared.Popped.{Popped}
+use Rattle.payload_queue.specs.declared.Pending.{Pending}
+
+-- what is in flight
+abbrev pub flightOf : PayloadQueue → List ℕ → Flight
+flightOf q ws = record { oldest = q .oldest; entries = held (q .ring) ws }
+
+-- the counter is the sum of the bytes in flight
+abbrev pub Counted : PayloadQueue → List ℕ → Type 0
+Counted q ws = q .bytes ≡ bytes (held (q .ring) ws)
+
+-- the entries are others, the oldest TSN stays
+abbrev pub changed : (List Chunk → List Chunk) → Flight → Flight
+changed g f = record { oldest = f .oldest; entries = g (f .entries) }
+
+-- a chunk behind the others, where there is room
+abbrev pub filed : (room : ℕ) → Chunk → Flight → Flight
+filed room c f = changed (λ l. pushed room l c) f
+
+-- the entry of a TSN is acknowledged; of an unknown one nothing changes
+abbrev pub acked : (tsn : ℕ) → Flight → Flight
+acked t f = changed (adjust acknowledged (place t f)) f
+
+-- the bytes that an entry holds, and 0 where there is none
+abbrev pub heldIn : Option Chunk → ℕ
+heldIn none = 0
+heldIn (some c) = c .length
+
+-- ---- pop: what it leaves, and what it answers
+
+pub record Pop : Type 0 where
+  pub flight : Flight
+  pub front : Found
+
+abbrev pub outcome : Popped → List ℕ → Pop
+outcome r ws = record { flight = flightOf (r .queue) ws; front = r .front }
+
+-- only the oldest is taken, as `popping` of the model says
+abbrev pub poppedOf : List Chunk → (tsn : ℕ) → Flight → Pop
+poppedOf [] t f = record { flight = f; front = Found.Nothing }
+poppedOf (c ∷ l) t f =
+    if eqb t (f .oldest) then record { flight = record { oldest = (f .oldest + 1) % tsns; entries = l }; front = Found.One c }
+    else record { flight = f; front = Found.Nothing }
+
+abbrev pub popped : (tsn : ℕ) → Flight → Pop
+popped t f = poppedOf (f .entries) t f
+
+-- ---- expired: not abandoned, at or past its deadline, and unacknowledged or of the message that is still pending
+
+abbrev pub isAwaited : Pending → (number : ℕ) → Bool
+isAwaited Pending.Nothing n = false
+isAwaited (Pending.Message m) n = eqb n m
+
+unfoldable pub overdueEntry : (now : ℕ) → Pending → Chunk → Bool
+overdueEntry now w c = not (c .abandoned) && (passed now (c .message .deadline) && (not (c .acked) || isAwaited w (c .message .number)))
+
+-- the answer: refused where the lent list is too short
+abbrev pub listed : (ts out : List ℕ) → Listed
+listed ts out = if ltb (length out) (length ts) then Listed.Refused listShort else Listed.Count (length ts)
+
+-- the TSNs stand at the front where they fit, and the rest is as it was
+abbrev pub written : (ts out : List ℕ) → List ℕ
+written ts out = if ltb (length out) (length ts) then out else ts ++ drop (length ts) out

@@ -1,0 +1,89 @@
+-- The bytes that entries hold together fit 64 bits, and the counter follows them. In the laws `g` and `vs` are the ring and the words after
+-- a call, and `n` the bytes that came or went.
+use mathlib.Core.Path.{_≡_, refl, ap, _∙_}
+use mathlib.Core.Bool.{Bool, true, false}
+use mathlib.Core.Logic.{⊎-elim}
+use mathlib.Core.List.{List, [], _∷_, _++_, map}
+use Prim.Native.Nat.{ℕ, zero, suc, _+_, _*_, _%_, _^_, _≤_, _<_}
+use native.Mathlib.Omega.{arith}
+use lib.ListN.{length, getD}
+use lib.Dec.{ltb}
+use Rattle.model.specs.declared.Chunk.{Chunk}
+use Rattle.model.specs.Lists.{if_then_else_, keep, adjust, total}
+use Rattle.model.specs.State.{isOf}
+use Rattle.model.specs.Rings.{bytes, marked, givenUp}
+use Rattle.model.specs.Flight.{acknowledged, toRetransmit}
+use Rattle.rows.specs.View.{lt-or-ge}
+use Rattle.rows.specs.Walks.{keep-total}
+use Rattle.cells.specs.Slots.{roomOf}
+use Rattle.cells.specs.Chunks.{chunks, blankChunk, chunk-past}
+use Rattle.cells.specs.Changes.{heldOf, length-in}
+use Rattle.ring.specs.declared.Ring.{Ring}
+use Rattle.ring.specs.Held.{held, slotOf, pushed, held-get, held-limit}
+use Rattle.payload_queue.specs.declared.PayloadQueue.{PayloadQueue}
+use Rattle.payload_queue.specs.Queue.{Counted}
+
+-- ---- they fit: at most 2 ^ 31 entries of 32-bit lengths
+
+slot-short : (k : ℕ) (ws : List ℕ) → getD (chunks ws) k blankChunk .length ≤ 4294967295
+slot-short k ws = ⊎-elim inside outside (lt-or-ge k (roomOf ws))
+  where
+    inside : k < roomOf ws → getD (chunks ws) k blankChunk .length ≤ 4294967295
+    inside h = omega (arith, length-in k ws h)
+
+    outside : roomOf ws ≤ k → getD (chunks ws) k blankChunk .length ≤ 4294967295
+    outside h = omega (arith, ap (λ (c : Chunk). c .length) (chunk-past k ws h))
+
+entry-short : (r : Ring) (ws : List ℕ) (i : ℕ) → getD (held r ws) i blankChunk .length ≤ 4294967295
+entry-short r ws i =
+    let k = slotOf r ws i in
+    omega (arith, ap (λ (c : Chunk). c .length) (held-get r ws i k refl), slot-short k ws)
+
+bytes-below : (l : List Chunk) → ((i : ℕ) → getD l i blankChunk .length ≤ 4294967295) → bytes l ≤ length l * 4294967295
+bytes-below [] h = omega arith
+bytes-below (c ∷ l) h = omega (arith, h 0, bytes-below l (λ i. h (suc i)))
+
+pub bytes-fit : (r : Ring) (ws : List ℕ) → bytes (held r ws) < 18446744073709551616
+bytes-fit r ws = omega (arith, held-limit r ws, bytes-below (held r ws) (entry-short r ws))
+
+-- ---- what a change of the entries does to the sum
+
+pub bytes-pushed : (room : ℕ) (l : List Chunk) (c : Chunk) → ltb (length l) room ≡ true → bytes (pushed room l c) ≡ bytes l + c .length
+bytes-pushed room l c e = ap (λ (b : Bool). bytes (if b then l ++ (c ∷ []) else l)) e ∙ more l
+  where
+    more : (m : List Chunk) → bytes (m ++ (c ∷ [])) ≡ bytes m + c .length
+    more [] = omega arith
+    more (x ∷ m) = omega (arith, more m)
+
+pub bytes-stay : (room : ℕ) (l : List Chunk) (c : Chunk) → ltb (length l) room ≡ false → bytes (pushed room l c) ≡ bytes l
+bytes-stay room l c e = ap (λ (b : Bool). bytes (if b then l ++ (c ∷ []) else l)) e
+
+pub bytes-acked : (i : ℕ) (l : List Chunk) → bytes (adjust acknowledged i l) + getD l i blankChunk .length ≡ bytes l
+bytes-acked zero [] = refl
+bytes-acked (suc i) [] = refl
+bytes-acked zero (c ∷ l) = omega arith
+bytes-acked (suc i) (c ∷ l) = omega (arith, bytes-acked i l)
+
+pub bytes-marked : (l : List Chunk) → bytes (map toRetransmit l) ≡ bytes l
+bytes-marked [] = refl
+bytes-marked (c ∷ l) = ap (λ (n : ℕ). c .length + n) (bytes-marked l)
+
+pub bytes-given : (number : ℕ) (l : List Chunk) → bytes (map (givenUp number) l) + bytes (keep (isOf number) l) ≡ bytes l
+bytes-given number l = ap (λ (n : ℕ). bytes (map (givenUp number) l) + n) (keep-total (isOf number) (λ (c : Chunk). c .length) l) ∙ each l
+  where
+    one : (b : Bool) (c : Chunk) → (if b then marked 0 (c .acked) true false c else c) .length + (if b then c .length else 0) ≡ c .length
+    one true c = omega arith
+    one false c = omega arith
+
+    each : (m : List Chunk) → bytes (map (givenUp number) m) + total (heldOf number) m ≡ bytes m
+    each [] = refl
+    each (c ∷ m) = omega (arith, one (isOf number c) c, each m)
+
+-- ---- so the counter follows
+
+module _ (q : PayloadQueue) (ws : List ℕ) (g : Ring) (vs : List ℕ) (n r : ℕ) where
+  pub counted-more : bytes (held g vs) ≡ bytes (held (q .ring) ws) + n → r ≡ (q .bytes + n) % 2 ^ 64 → Counted q ws → r ≡ bytes (held g vs)
+  counted-more e s h = omega (arith, bytes-fit g vs)
+
+  pub counted-less : r < 18446744073709551616 → bytes (held g vs) + n ≡ bytes (held (q .ring) ws) → (r + n) % 2 ^ 64 ≡ q .bytes → Counted q ws → r ≡ bytes (held g vs)
+  counted-less f e s h = omega (arith, bytes-fit (q .ring) ws)

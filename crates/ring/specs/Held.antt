@@ -1,0 +1,97 @@
+-- What a ring in lent cells holds, and what its calls do to that list. In the laws `k` is the slot that the code has computed, and `vs`
+-- are the words after a change of that slot.
+use mathlib.Core.Path.{_≡_, refl, sym, ap, _∙_}
+use mathlib.Core.Bool.{Bool}
+use mathlib.Core.List.{List, [], _∷_, _++_}
+use Prim.Native.Nat.{ℕ, zero, suc, _+_, _-_, _%_, _≤_, _<_, min}
+use native.Mathlib.Nat.{not-suc-le-zero, le-of-suc-le-suc}
+use native.Mathlib.Omega.{arith}
+use lib.ListN.{length, getD, getElem?, set, drop}
+use lib.Dec.{ltb}
+use borrow.Author.Tests.{lt-ltb, le-ltb}
+use Rattle.model.specs.declared.Chunk.{Chunk}
+use Rattle.model.specs.declared.Found.{Found}
+use Rattle.model.specs.Lists.{if_then_else_, first, adjust}
+use Rattle.model.specs.Flight.{found}
+use Rattle.rows.specs.Rounds.{cellOf, round, round-length, round-get, round-set, round-adjust, round-push, round-pop}
+use Rattle.cells.specs.Slots.{roomOf, limit, length-slots}
+use Rattle.cells.specs.Chunks.{chunkIn, chunks, blankChunk}
+use Rattle.ring.specs.declared.Ring.{Ring}
+
+-- the chunks in order: `len` of the slots (all, where that is more), from slot `start` on (modulo their number), and round
+abbrev pub held : Ring → List ℕ → List Chunk
+held r ws = round (r .start) (r .len) (chunks ws)
+
+-- the slot of the i-th; past the end the number of slots, where there is none
+abbrev pub slotOf : Ring → List ℕ → ℕ → ℕ
+slotOf r ws i = cellOf (roomOf ws) (r .start) (r .len) i
+
+-- a chunk is added at the end where the list is below the room
+abbrev pub pushed : (room : ℕ) → List Chunk → Chunk → List Chunk
+pushed room l c = if ltb (length l) room then l ++ (c ∷ []) else l
+
+-- ---- how many there are
+
+pub length-held : (r : Ring) (ws : List ℕ) → length (held r ws) ≡ min (r .len) (roomOf ws)
+length-held r ws = round-length (roomOf ws) (r .start) (r .len) (chunks ws) (length-slots chunkIn ws)
+
+-- so sums of 32-bit numbers over them fit 64 bits
+pub held-limit : (r : Ring) (ws : List ℕ) → length (held r ws) ≤ limit
+held-limit r ws = omega (arith, length-held r ws)
+
+-- ---- the i-th
+
+module _ (r : Ring) (ws : List ℕ) (i k : ℕ) (e : k ≡ slotOf r ws i) where
+  pub held-get : getD (chunks ws) k blankChunk ≡ getD (held r ws) i blankChunk
+  held-get =
+      ap (λ (j : ℕ). getD (chunks ws) j blankChunk) e ∙ round-get (roomOf ws) (r .start) (r .len) (chunks ws) (length-slots chunkIn ws) i blankChunk
+
+  pub held-set : (c : Chunk) (vs : List ℕ) → chunks vs ≡ set (chunks ws) k c → held r vs ≡ set (held r ws) i c
+  held-set c vs q =
+      round-set (roomOf ws) (r .start) (r .len) (chunks ws) (length-slots chunkIn ws) i c (chunks vs) (q ∙ ap (λ (j : ℕ). set (chunks ws) j c) e)
+
+  pub held-adjust : (f : Chunk → Chunk) (vs : List ℕ) → chunks vs ≡ adjust f k (chunks ws) → held r vs ≡ adjust f i (held r ws)
+  held-adjust f vs q =
+      round-adjust (roomOf ws) (r .start) (r .len) (chunks ws) (length-slots chunkIn ws) f i blankChunk (chunks vs) (q ∙ ap (λ (j : ℕ). adjust f j (chunks ws)) e)
+
+-- ---- one more, one less
+
+-- a longer ring whose last is set
+pub held-push : (r : Ring) (ws : List ℕ) (c : Chunk) → r .len < roomOf ws → set (held (record { start = r .start; len = r .len + 1 }) ws) (r .len) c ≡ held r ws ++ (c ∷ [])
+held-push r ws c h = round-push (roomOf ws) (r .start) (r .len) (chunks ws) (length-slots chunkIn ws) c h
+
+-- the next slot is the start
+pub held-pop : (r : Ring) (ws : List ℕ) (n s : ℕ) → n ≡ length (held r ws) → s ≡ r .start % roomOf ws → 0 < n → held (record { start = s + 1; len = n - 1 }) ws ≡ drop 1 (held r ws)
+held-pop r ws n s e q h = round-pop (roomOf ws) (r .start) (r .len) (chunks ws) (length-slots chunkIn ws) blankChunk n s (e ∙ length-held r ws) q h
+
+-- ---- the cases of each
+
+pub get-in : (l : List Chunk) (i : ℕ) → i < length l → Found.One (getD l i blankChunk) ≡ found (getElem? l i)
+get-in [] i h = absurd (not-suc-le-zero h)
+get-in (x ∷ l) zero h = refl
+get-in (x ∷ l) (suc i) h = get-in l i (le-of-suc-le-suc h)
+
+pub get-out : (l : List Chunk) (i : ℕ) → length l ≤ i → Found.Nothing ≡ found (getElem? l i)
+get-out [] i h = refl
+get-out (x ∷ l) zero h = absurd (not-suc-le-zero h)
+get-out (x ∷ l) (suc i) h = get-out l i (le-of-suc-le-suc h)
+
+pub get-first : (l : List Chunk) → found (getElem? l 0) ≡ found (first l)
+get-first [] = refl
+get-first (x ∷ l) = refl
+
+-- what an answer says of the list
+pub found-none : (l : List Chunk) → found (first l) ≡ Found.Nothing → l ≡ []
+found-none [] q = refl
+found-none (c ∷ l) q = let z : _≡_ {A = ℕ} 0 1 = cc in absurd (omega arith)
+
+pub found-one : (l : List Chunk) (c : Chunk) → found (first l) ≡ Found.One c → l ≡ c ∷ drop 1 l
+found-one [] c q = let z : _≡_ {A = ℕ} 0 1 = cc in absurd (omega arith)
+found-one (x ∷ l) c q = ap (λ (y : Chunk). y ∷ l) (cc)
+
+module _ (room : ℕ) (l : List Chunk) (c : Chunk) where
+  pub pushed-room : length l < room → l ++ (c ∷ []) ≡ pushed room l c
+  pushed-room h = sym (ap (λ (b : Bool). if b then l ++ (c ∷ []) else l) (lt-ltb (length l) room h))
+
+  pub pushed-full : room ≤ length l → l ≡ pushed room l c
+  pushed-full h = sym (ap (λ (b : Bool). if b then l ++ (c ∷ []) else l) (le-ltb (length l) room h))

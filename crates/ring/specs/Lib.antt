@@ -1,0 +1,2 @@
+-- What a ring holds, and the laws that its calls' proofs and its callers' cite.
+pub mod Held

@@ -1,0 +1,215 @@
+// A ring of chunks in lent cells. The two numbers go by value, the cells are a slice of words that the caller lends, and its length is
+// the ring's room. What a ring holds is the list `held`, for every value of the two numbers, so no call asks anything of its caller.
+// A caller's proof goes by that list: `count` is its length, `nth` its element, `put` its `set`, `push` its `++`, `shorter` its `drop 1`,
+// and a change of the i-th is its `adjust`.
+use model::Chunk;
+use model::Found;
+ghost use mathlib.Core.Path.{_≡_};
+ghost use Prim.Native.Nat.{_%_, _<_, min};
+ghost use lib.ListN.{length, getD, getElem?, set, drop};
+ghost use lib.Dec.{ltb};
+ghost use Rattle.limits.specs.Limits.{clockMax};
+ghost use Rattle.model.specs.Lists.{first, adjust};
+ghost use Rattle.model.specs.Rings.{givenUp, lowered, started};
+ghost use Rattle.model.specs.Flight.{found, toRetransmit};
+ghost use Rattle.cells.specs.Slots.{roomOf};
+ghost use Rattle.cells.specs.Chunks.{blankChunk};
+ghost use Rattle.cells.specs.Changes.{heldOf};
+ghost use Rattle.ring.specs.Held.{slotOf, held, pushed};
+
+pub struct Ring {
+    pub start: usize,
+    pub len: usize,
+}
+
+pub struct Pushed {
+    pub ring: Ring,
+    pub done: bool,
+}
+
+pub struct Popped {
+    pub ring: Ring,
+    pub front: Found,
+}
+
+// ---- positions
+
+// The start, brought below the room; a division only where it is not there already.
+fn fold(start: usize, room: usize) -> usize
+    requires { ⌜ 0 < room ⌝ }
+    ensures { λ r. ⌜ r ≡ start % room ⌝ }
+{
+    if start < room { start } else { start % room }
+}
+
+// The slot of the i-th chunk; past the end the room, where a load is blank and a store nothing.
+fn slot(ring: Ring, cells: &[u64], i: usize) -> usize
+    ensures { λ r. ⌜ r ≡ slotOf ring (now (cells .entry)) i ⌝ }
+{
+    let room = cells::room(cells);
+    if room <= i {
+        return room;
+    }
+    if ring.len <= i {
+        return room;
+    }
+    let start = fold(ring.start, room);
+    let behind = room - start;
+    if i < behind {
+        return start + i;
+    }
+    i - behind
+}
+
+// How many there are: a length beyond the room reads as the room.
+pub fn count(ring: Ring, cells: &[u64]) -> usize
+    ensures { λ r. ⌜ r ≡ length (held ring (now (cells .entry))) ⌝ }
+{
+    let room = cells::room(cells);
+    let len = ring.len;
+    if len < room { len } else { room }
+}
+
+// ---- whole chunks
+
+// The i-th chunk, counted from 0, and a blank one past the end.
+pub fn nth(ring: Ring, cells: &[u64], i: usize) -> Chunk
+    ensures { λ r. ⌜ r ≡ getD (held ring (now (cells .entry))) i blankChunk ⌝ }
+{
+    let at = slot(ring, cells, i);
+    cells::chunk::load(cells, at)
+}
+
+// The i-th chunk is replaced, where there is one.
+pub fn put(ring: Ring, cells: &mut [u64], i: usize, chunk: Chunk)
+    ensures { λ _. ⌜ held ring (now (cells .exit)) ≡ set (held ring (now (cells .entry))) i chunk ⌝ }
+{
+    let at = slot(ring, cells, i);
+    cells::chunk::store(cells, at, chunk);
+}
+
+// One more at the end, where there is room.
+pub fn push(ring: Ring, cells: &mut [u64], chunk: Chunk) -> Pushed
+    ensures { λ r. ⌜ (held (r .ring) (now (cells .exit)) ≡ pushed (roomOf (now (cells .entry))) (held ring (now (cells .entry))) chunk) × (r .done ≡ ltb (length (held ring (now (cells .entry)))) (roomOf (now (cells .entry)))) ⌝ }
+{
+    let len = ring.len;
+    if cells::room(cells) <= len {
+        return Pushed {
+            ring: ring,
+            done: false,
+        };
+    }
+    let more = len + 1;
+    let longer = Ring {
+        start: ring.start,
+        len: more,
+    };
+    put(longer, cells, len, chunk);
+    Pushed {
+        ring: longer,
+        done: true,
+    }
+}
+
+// The ring without its first chunk.
+pub fn shorter(ring: Ring, cells: &[u64]) -> Ring
+    ensures { λ r. ⌜ held r (now (cells .entry)) ≡ drop 1 (held ring (now (cells .entry))) ⌝ }
+{
+    let n = count(ring, cells);
+    if n == 0 {
+        return ring;
+    }
+    let start = fold(ring.start, cells::room(cells));
+    Ring {
+        start: start + 1,
+        len: n - 1,
+    }
+}
+
+// The i-th chunk, or nothing.
+pub fn get(ring: Ring, cells: &[u64], i: usize) -> Found
+    ensures { λ r. ⌜ r ≡ found (getElem? (held ring (now (cells .entry))) i) ⌝ }
+{
+    if count(ring, cells) <= i {
+        return Found::Nothing;
+    }
+    let chunk = nth(ring, cells, i);
+    Found::One(chunk)
+}
+
+// The first chunk, or nothing.
+pub fn peek(ring: Ring, cells: &[u64]) -> Found
+    ensures { λ r. ⌜ r ≡ found (first (held ring (now (cells .entry)))) ⌝ }
+{
+    get(ring, cells, 0)
+}
+
+// The first chunk, or nothing, and the ring without it.
+pub fn pop(ring: Ring, cells: &[u64]) -> Popped
+    ensures { λ r. ⌜ (held (r .ring) (now (cells .entry)) ≡ drop 1 (held ring (now (cells .entry)))) × (r .front ≡ found (first (held ring (now (cells .entry))))) ⌝ }
+{
+    let front = peek(ring, cells);
+    let rest = shorter(ring, cells);
+    Popped {
+        ring: rest,
+        front: front,
+    }
+}
+
+// ---- the i-th chunk in part, for loops
+
+// The message number of the i-th, and 0 past the end.
+pub fn nth_number(ring: Ring, cells: &[u64], i: usize) -> u64
+    ensures { λ r. ⌜ r ≡ getD (held ring (now (cells .entry))) i blankChunk .message .number ⌝ }
+{
+    let at = slot(ring, cells, i);
+    cells::chunk::number_at(cells, at)
+}
+
+// The bytes that the i-th holds, and 0 past the end.
+pub fn nth_length(ring: Ring, cells: &[u64], i: usize) -> u32
+    ensures { λ r. ⌜ r ≡ getD (held ring (now (cells .entry))) i blankChunk .length ⌝ }
+{
+    let at = slot(ring, cells, i);
+    cells::chunk::length_at(cells, at)
+}
+
+// The stream of the i-th, and 0 past the end.
+pub fn nth_stream(ring: Ring, cells: &[u64], i: usize) -> u16
+    ensures { λ r. ⌜ r ≡ getD (held ring (now (cells .entry))) i blankChunk .message .stream ⌝ }
+{
+    let at = slot(ring, cells, i);
+    cells::chunk::stream_at(cells, at)
+}
+
+// The i-th is to be retransmitted, if it is neither acknowledged nor abandoned.
+pub fn mark_nth(ring: Ring, cells: &mut [u64], i: usize)
+    ensures { λ _. ⌜ held ring (now (cells .exit)) ≡ adjust toRetransmit i (held ring (now (cells .entry))) ⌝ }
+{
+    let at = slot(ring, cells, i);
+    cells::chunk::mark_at(cells, at);
+}
+
+// The i-th is given up, if it is of the message; the answer is the bytes that it held of it.
+pub fn give_up_nth(ring: Ring, cells: &mut [u64], i: usize, number: u64) -> u32
+    ensures { λ r. ⌜ (r ≡ heldOf number (getD (held ring (now (cells .entry))) i blankChunk)) × (held ring (now (cells .exit)) ≡ adjust (givenUp number) i (held ring (now (cells .entry)))) ⌝ }
+{
+    let at = slot(ring, cells, i);
+    cells::chunk::give_up_at(cells, at, number)
+}
+
+// The SSN of the i-th drops by 1 modulo 2^16, if it is of the stream.
+pub fn lower_nth(ring: Ring, cells: &mut [u64], i: usize, stream: u16)
+    ensures { λ _. ⌜ held ring (now (cells .exit)) ≡ adjust (lowered stream) i (held ring (now (cells .entry))) ⌝ }
+{
+    let at = slot(ring, cells, i);
+    cells::chunk::lower_at(cells, at, stream);
+}
+
+// The lifetime of the i-th starts, if its message has one and is not yet seen. A clock beyond its limit is taken as the limit.
+pub fn start_nth(ring: Ring, cells: &mut [u64], i: usize, clock: u64, unstarted: u64)
+    ensures { λ _. ⌜ held ring (now (cells .exit)) ≡ adjust (started (min clock clockMax) unstarted) i (held ring (now (cells .entry))) ⌝ }
+{
+    let at = slot(ring, cells, i);
+    cells::chunk::start_at(cells, at, clock, unstarted);
+}
