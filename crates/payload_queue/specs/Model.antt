@@ -1,10 +1,11 @@
 -- The calls as document 01's: what they do to the flight and answer is what the model's do of a whole sender.
-use mathlib.Core.Path.{_≡_, refl, sym, ap}
+use mathlib.Core.Path.{_≡_, refl, sym, ap, _∙_}
 use mathlib.Core.Bool.{Bool, true, false, not, _&&_, _||_}
 use mathlib.Core.Option.{Option, none, some}
 use mathlib.Core.List.{List, [], _∷_, _++_}
-use Prim.Native.Nat.{ℕ, zero, suc, _+_, _%_}
-use lib.ListN.{getElem?}
+use Prim.Native.Nat.{ℕ, zero, suc, _+_, _%_, _<_}
+use native.Mathlib.Omega.{arith}
+use lib.ListN.{length, getD, getElem?}
 use lib.Dec.{eqb}
 use Rattle.limits.specs.Limits.{tsns}
 use Rattle.limits.specs.Moments.{passed}
@@ -12,10 +13,11 @@ use Rattle.model.specs.declared.Chunk.{Chunk}
 use Rattle.model.specs.declared.Found.{Found}
 use Rattle.model.specs.Lists.{if_then_else_, some-of, adjust}
 use Rattle.model.specs.State.{Sender, Flight, Out, Pending as Waiting, withEntries, place, inFlight, isOf}
-use Rattle.model.specs.Rings.{expiredEntry}
+use Rattle.model.specs.Rings.{tsnsOf, expiredEntry}
 use Rattle.model.specs.Flight.{acknowledged, acknowledging, popping}
+use Rattle.cells.specs.Chunks.{blankChunk}
 use Rattle.payload_queue.specs.declared.Pending.{Pending}
-use Rattle.payload_queue.specs.Queue.{acked, heldIn, Pop, poppedOf, isAwaited, overdueEntry}
+use Rattle.payload_queue.specs.Queue.{acked, heldIn, Pop, poppedOf, isAwaited, overdueEntry, overdueTsns}
 
 -- a sender with another flight
 abbrev pub withFlight : Flight → Sender → Sender
@@ -53,8 +55,25 @@ acknowledging-is t s = go (inFlight t (s .flight)) refl
     go none e = sym (ap (λ (m : List Chunk). record { after = withEntries m s; says = 0 }) (unknown (place t (s .flight)) (s .flight .entries) e))
     go (some c) e = refl
 
--- an entry is listed as the model's, if the message that the caller names is the one that is pending
-pub overdue-is : (now : ℕ) (w : Pending) (p : Waiting) (c : Chunk) → isAwaited w (c .message .number) ≡ some-of (isOf (c .message .number)) (p .unordered ++ p .ordered)
+-- ---- expired lists what the model does, if the caller names the message that is pending
+
+-- of the entries' messages, the one that is named is the one that is pending
+abbrev pub Names : Pending → Waiting → List Chunk → Type 0
+Names w p l =
+    (i : ℕ) → i < length l
+    → isAwaited w (getD l i blankChunk .message .number) ≡ some-of (isOf (getD l i blankChunk .message .number)) (p .unordered ++ p .ordered)
+
+overdue-is : (now : ℕ) (w : Pending) (p : Waiting) (c : Chunk) → isAwaited w (c .message .number) ≡ some-of (isOf (c .message .number)) (p .unordered ++ p .ordered)
     → overdueEntry now w c ≡ expiredEntry now p c
 unfolding overdueEntry
 overdue-is now w p c e = ap (λ (b : Bool). not (c .abandoned) && (passed now (c .message .deadline) && (not (c .acked) || b))) e
+
+listed-is : (now : ℕ) (w : Pending) (p : Waiting) (t : ℕ) (l : List Chunk) → Names w p l → tsnsOf (overdueEntry now w) t l ≡ tsnsOf (expiredEntry now p) t l
+listed-is now w p t [] h = refl
+listed-is now w p t (c ∷ l) h =
+    let rest = listed-is now w p ((t + 1) % tsns) l (λ i z. h (suc i) (omega arith)) in
+    ap (λ (b : Bool). if b then (t ∷ tsnsOf (overdueEntry now w) ((t + 1) % tsns) l) else tsnsOf (overdueEntry now w) ((t + 1) % tsns) l) (overdue-is now w p c (h 0 (omega arith)))
+    ∙ ap (λ (m : List ℕ). if expiredEntry now p c then (t ∷ m) else m) rest
+
+pub expired-is : (now : ℕ) (w : Pending) (p : Waiting) (f : Flight) → Names w p (f .entries) → overdueTsns now w f ≡ tsnsOf (expiredEntry now p) (f .oldest) (f .entries)
+expired-is now w p f h = listed-is now w p (f .oldest) (f .entries) h

@@ -14,7 +14,7 @@ use Rattle.model.specs.declared.Found.{Found}
 use Rattle.model.specs.declared.Listed.{Listed}
 use Rattle.model.specs.Lists.{if_then_else_, adjust}
 use Rattle.model.specs.State.{Flight, place}
-use Rattle.model.specs.Rings.{bytes}
+use Rattle.model.specs.Rings.{bytes, tsnsOf}
 use Rattle.model.specs.Flight.{acknowledged}
 use Rattle.ring.specs.Held.{held, pushed}
 use Rattle.payload_queue.specs.declared.PayloadQueue.{PayloadQueue}
@@ -73,6 +73,10 @@ isAwaited (Pending.Message m) n = eqb n m
 
 unfoldable pub overdueEntry : (now : ℕ) → Pending → Chunk → Bool
 overdueEntry now w c = not (c .abandoned) && (passed now (c .message .deadline) && (not (c .acked) || isAwaited w (c .message .number)))
+
+-- the TSNs of such entries, oldest first
+abbrev pub overdueTsns : (now : ℕ) → Pending → Flight → List ℕ
+overdueTsns now w f = tsnsOf (overdueEntry now w) (f .oldest) (f .entries)
 
 -- the answer: refused where the lent list is too short
 abbrev pub listed : (ts out : List ℕ) → Listed

@@ -20,7 +20,7 @@ ghost use Rattle.model.specs.Flight.{found, outstanding, acknowledged, toRetran
 ghost use Rattle.rows.specs.Walks.{count};
 ghost use Rattle.cells.specs.Slots.{roomOf};
 ghost use Rattle.ring.specs.Held.{held};
-ghost use Rattle.payload_queue.specs.Queue.{flightOf, Counted, changed, filed, popped, outcome, acked, heldIn, isAwaited, overdueEntry, listed, written};
+ghost use Rattle.payload_queue.specs.Queue.{flightOf, Counted, changed, filed, popped, outcome, acked, heldIn, isAwaited, overdueEntry, overdueTsns, listed, written};
 
 pub struct PayloadQueue {
     pub ring: Ring,
@@ -40,7 +40,7 @@ pub struct Acked {
 }
 
 // The bytes that the message held in flight.
-pub struct Released {
+pub struct Freed {
     pub queue: PayloadQueue,
     pub bytes: u64,
 }
@@ -244,13 +244,13 @@ fn give_up_all(ring: Ring, cells: &mut [u64], number: u64) -> u64
 }
 
 // Gives up every entry of a message, and answers the bytes that they held.
-pub fn abandon_message(q: PayloadQueue, cells: &mut [u64], number: u64) -> Released
+pub fn abandon_message(q: PayloadQueue, cells: &mut [u64], number: u64) -> Freed
     ensures { λ r. ⌜ (flightOf (r .queue) (now (cells .exit)) ≡ changed (map (givenUp number)) (flightOf q (now (cells .entry)))) × (r .bytes ≡ bytes (keep (isOf number) (flightOf q (now (cells .entry)) .entries))) × (Counted q (now (cells .entry)) → Counted (r .queue) (now (cells .exit))) ⌝ }
 {
     let ring = q.ring;
     let released = give_up_all(ring, cells, number);
     let left = std::num::wrapping_sub_u64(q.bytes, released);
-    Released {
+    Freed {
         queue: PayloadQueue {
             ring: ring,
             oldest: q.oldest,
@@ -343,7 +343,7 @@ pub fn expired(
     pending: Pending,
     out: &mut [u32],
 ) -> Listed
-    ensures { λ r. ⌜ (r ≡ listed (tsnsOf (overdueEntry clock pending) (q .oldest) (flightOf q (now (cells .entry)) .entries)) (now (out .entry))) × (now (out .exit) ≡ written (tsnsOf (overdueEntry clock pending) (q .oldest) (flightOf q (now (cells .entry)) .entries)) (now (out .entry))) ⌝ }
+    ensures { λ r. ⌜ (r ≡ listed (overdueTsns clock pending (flightOf q (now (cells .entry)))) (now (out .entry))) × (now (out .exit) ≡ written (overdueTsns clock pending (flightOf q (now (cells .entry)))) (now (out .entry))) ⌝ }
 {
     let ring = q.ring;
     let needed = count_overdue(ring, cells, clock, pending);

@@ -15,6 +15,7 @@ use Rattle.model.specs.Lists.{if_then_else_}
 use Rattle.model.specs.Streams.{accounted, reduced}
 use Rattle.model.specs.Messages.{isUnordered, ssnAfter, countedBy, written}
 use Rattle.rows.specs.View.{lt-or-ge}
+use Rattle.stream.specs.Cases.{and-no}
 use Rattle.stream.specs.declared.Accepted.{Accepted}
 use Rattle.stream.specs.declared.Freed.{Freed}
 
@@ -44,21 +45,28 @@ freeing z t =
       low = falls (reduced z (t .buffered)) t;
     }
 
--- ---- a write, where its parts are known by equations
+-- ---- a write
 
-module _ (p l : ℕ) (t : Stream) {o : Bool} (q : o ≡ overflows l t) where
+module _ (p l : ℕ) (t : Stream) where
+  -- the answer by the test
   abbrev answer : Bool → Accepted
   answer b = if b then record { stream = t; high = false } else record { stream = written p l t; high = rises (t .buffered + l) t }
 
-  pub accept-over : o ≡ true → record { stream = t; high = false } ≡ accepting p l t
-  accept-over e = sym (ap answer e) ∙ ap answer q
+  -- for a caller who has tested the amount
+  pub accepting-fits : overflows l t ≡ false → accepting p l t ≡ record { stream = written p l t; high = rises (t .buffered + l) t }
+  accepting-fits e = ap answer e
 
-  pub accept-fits : o ≡ false → {u : Bool} → u ≡ isUnordered p t → {n : ℕ} → n ≡ ssnAfter u (t .ssn) → {x : Statistics} → x ≡ countedBy p l (t .statistics)
-      → {s : Stream} → s ≡ accounted n (t .buffered + l) x t → {h : Bool} → h ≡ rises (t .buffered + l) t → record { stream = s; high = h } ≡ accepting p l t
-  accept-fits e {u} i {n} j {x} k {s} a {h} r =
-      let m : n ≡ ssnAfter (isUnordered p t) (t .ssn) = j ∙ ap (λ (b : Bool). ssnAfter b (t .ssn)) i in
-      let w : s ≡ written p l t = a ∙ ap (λ (y : ℕ). accounted y (t .buffered + l) x t) m ∙ ap (λ (y : Statistics). accounted (ssnAfter (isUnordered p t) (t .ssn)) (t .buffered + l) y t) k in
-      (λ y. record { stream = w y; high = r y }) ∙ sym (ap answer e) ∙ ap answer q
+  -- the two ways out, where the parts are known by equations
+  module _ {o : Bool} (q : o ≡ overflows l t) where
+    pub accept-over : o ≡ true → record { stream = t; high = false } ≡ accepting p l t
+    accept-over e = sym (ap answer (sym q ∙ e))
+
+    pub accept-fits : o ≡ false → {u : Bool} → u ≡ isUnordered p t → {n : ℕ} → n ≡ ssnAfter u (t .ssn) → {x : Statistics} → x ≡ countedBy p l (t .statistics)
+        → {s : Stream} → s ≡ accounted n (t .buffered + l) x t → {h : Bool} → h ≡ rises (t .buffered + l) t → record { stream = s; high = h } ≡ accepting p l t
+    accept-fits e i {n} j {x} k {s} a r =
+        let m : n ≡ ssnAfter (isUnordered p t) (t .ssn) = j ∙ ap (λ (b : Bool). ssnAfter b (t .ssn)) i in
+        let w : s ≡ written p l t = a ∙ λ y. accounted (m y) (t .buffered + l) (k y) t in
+        (λ y. record { stream = w y; high = r y }) ∙ sym (accepting-fits (sym q ∙ e))
 
 -- ---- a release
 
@@ -70,7 +78,7 @@ stays t = ⊎-elim above below (lt-or-ge (t .low) (t .buffered))
     above h = sym (ap (λ (b : Bool). ltb (t .low) (t .buffered) && b) (lt-leb (t .buffered) (t .low) h) ∙ and-false (ltb (t .low) (t .buffered)))
 
     below : t .buffered ≤ t .low → false ≡ falls (t .buffered) t
-    below h = sym (ap (λ (b : Bool). b && leb (t .buffered) (t .low)) (le-ltb (t .low) (t .buffered) h))
+    below h = and-no (leb (t .buffered) (t .low)) (le-ltb (t .low) (t .buffered) h)
 
 -- the answer when the amount is n
 abbrev freed : ℕ → Stream → Freed

@@ -1,4 +1,5 @@
--- The table of streams in lent cells. A caller of `find` goes on by `at-found` or `none-found`, and of `update` by `update-put`.
+-- The table of streams in lent cells. A caller of `find` goes on by `at-found` or `none-found`, of `update` by `update-put`, and of `open`
+-- by `joined-room`.
 use mathlib.Core.Path.{_≡_, refl, sym, ap, _∙_}
 use mathlib.Core.Bool.{Bool, true, false}
 use mathlib.Core.Option.{Option, none, some}
@@ -30,9 +31,12 @@ placeOf id [] = 0
 placeOf id (t ∷ l) = if eqb (t .identifier) id then 0 else suc (placeOf id l)
 
 -- the answer of a search
-abbrev pub placed : Option Stream → (place : ℕ) → Place
+abbrev placed : Option Stream → (place : ℕ) → Place
 placed none i = Nothing
 placed (some t) i = At i t
+
+abbrev pub sought : (identifier : ℕ) → List Stream → Place
+sought id l = placed (find id l) (placeOf id l)
 
 -- a stream joins the table where that is below the room
 abbrev pub joined : (room : ℕ) → List Stream → Stream → List Stream
@@ -40,14 +44,14 @@ joined room l t = if ltb (length l) room then l ++ (t ∷ []) else l
 
 -- ---- for callers
 
-pub none-found : (id : ℕ) (l : List Stream) → Nothing ≡ placed (find id l) (placeOf id l) → find id l ≡ none
+pub none-found : (id : ℕ) (l : List Stream) → Nothing ≡ sought id l → find id l ≡ none
 none-found id l e = case (find id l) refl
   where
     case : (o : Option Stream) → find id l ≡ o → find id l ≡ none
     case none q = q
     case (some t) q = let z : Nothing ≡ At (placeOf id l) t = e ∙ ap (λ (o : Option Stream). placed o (placeOf id l)) q in cc
 
-pub at-found : (id : ℕ) (l : List Stream) (i : ℕ) (t : Stream) → At i t ≡ placed (find id l) (placeOf id l) → (find id l ≡ some t) × (i ≡ placeOf id l)
+pub at-found : (id : ℕ) (l : List Stream) (i : ℕ) (t : Stream) → At i t ≡ sought id l → (find id l ≡ some t) × (i ≡ placeOf id l)
 at-found id l i t e = case (find id l) refl
   where
     case : (o : Option Stream) → find id l ≡ o → (find id l ≡ some t) × (i ≡ placeOf id l)
@@ -75,11 +79,14 @@ put-place t (x ∷ l) = case (eqb (x .identifier) (t .identifier)) (put-place t 
     case false q = ap (λ (r : List Stream). x ∷ r) q
 
 -- where `find` gave the place i and the stream t, and s keeps its identifier, `update` is the model's `put`
-pub update-put : (id : ℕ) (l : List Stream) (i : ℕ) (t s : Stream) → At i t ≡ placed (find id l) (placeOf id l) → s .identifier ≡ t .identifier → set l i s ≡ put s l
+pub update-put : (id : ℕ) (l : List Stream) (i : ℕ) (t s : Stream) → At i t ≡ sought id l → s .identifier ≡ t .identifier → set l i s ≡ put s l
 update-put id l i t s e q =
     let f = at-found id l i t e in
     let k : id ≡ s .identifier = sym (q ∙ found-identifier id l t (f .0)) in
     ap (λ (j : ℕ). set l j s) (f .1 ∙ ap (λ (n : ℕ). placeOf n l) k) ∙ put-place s l
+
+pub joined-room : (room : ℕ) (l : List Stream) (t : Stream) → length l < room → joined room l t ≡ l ++ (t ∷ [])
+joined-room room l t h = ap (λ (b : Bool). if b then l ++ (t ∷ []) else l) (lt-ltb (length l) room h)
 
 -- ---- how many there are
 
@@ -88,12 +95,12 @@ length-table n ws = length-take n (streams ws) ∙ ap (min n) (length-slots stre
 
 -- ---- a search by index: what is before i is not it
 abbrev pub Seeking : (id : ℕ) → List Stream → (i : ℕ) → Type 0
-Seeking id l i = placed (find id l) (placeOf id l) ≡ placed (find id (drop i l)) (i + placeOf id (drop i l))
+Seeking id l i = sought id l ≡ placed (find id (drop i l)) (i + placeOf id (drop i l))
 
 pub seek-start : (id : ℕ) (l : List Stream) → Seeking id l 0
 seek-start id l = ap (placed (find id l)) (sym (zero-add (placeOf id l)))
 
-pub seek-none : (id : ℕ) (l : List Stream) (i : ℕ) → length l ≤ i → Seeking id l i → Nothing ≡ placed (find id l) (placeOf id l)
+pub seek-none : (id : ℕ) (l : List Stream) (i : ℕ) → length l ≤ i → Seeking id l i → Nothing ≡ sought id l
 seek-none id l i h v = sym (v ∙ ap (λ (r : List Stream). placed (find id r) (i + placeOf id r)) (rest-none l i h))
 
 -- what the table has at an index below its length
@@ -110,10 +117,10 @@ module _ (id n : ℕ) (ws : List ℕ) (i : ℕ) {t : Stream} (q : t ≡ getD (st
   abbrev turn : Bool → Place
   turn b = placed (if b then some t else find id rest) (i + (if b then 0 else suc (placeOf id rest)))
 
-  here : placed (find id (tableOf n ws)) (placeOf id (tableOf n ws)) ≡ turn (eqb (t .identifier) id)
+  here : sought id (tableOf n ws) ≡ turn (eqb (t .identifier) id)
   here = v ∙ ap (λ (r : List Stream). placed (find id r) (i + placeOf id r)) (table-read n ws i q h)
 
-  pub seek-hit : t .identifier ≡ id → At i t ≡ placed (find id (tableOf n ws)) (placeOf id (tableOf n ws))
+  pub seek-hit : t .identifier ≡ id → At i t ≡ sought id (tableOf n ws)
   seek-hit e = sym (here ∙ ap turn (eq-eqb (t .identifier) id e) ∙ ap (λ (k : ℕ). At k t) (add-zero i))
 
   pub seek-miss : (t .identifier ≡ id → ⊥) → Seeking id (tableOf n ws) (i + 1)
@@ -132,7 +139,7 @@ module _ (n : ℕ) (ws vs : List ℕ) (t : Stream) where
       let k : n < length (streams ws) = omega (arith, length-slots streamIn ws) in
       let j : length (tableOf n ws) < roomOf ws = omega (arith, length-table n ws) in
       ap (λ (m : ℕ). take m (streams vs)) (add-one n) ∙ ap (take (suc n)) q ∙ take-suc-set (streams ws) n t k
-      ∙ sym (ap (λ (b : Bool). if b then tableOf n ws ++ (t ∷ []) else tableOf n ws) (lt-ltb (length (tableOf n ws)) (roomOf ws) j))
+      ∙ sym (joined-room (roomOf ws) (tableOf n ws) t j)
 
 -- ---- none is
 

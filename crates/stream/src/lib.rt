@@ -167,6 +167,7 @@ pub fn fragments(stream: Stream, length: u32) -> usize
 
 // ---- a message is written
 
+// What a write, a release and an expiry change.
 fn accounted(stream: Stream, ssn: u16, buffered: u32, statistics: Statistics) -> Stream
     ensures { λ r. ⌜ r ≡ accounted ssn buffered statistics stream ⌝ }
 {
@@ -216,8 +217,8 @@ fn is_one_of(protocol: u32, first: u32, second: u32) -> bool
     protocol == second
 }
 
-// The statistics behind a message. One of no bytes is not queued, so it does not count; the empty types stand for one, and the byte that
-// carries them is none of the message's.
+// The statistics behind a message. One of no bytes is not queued, so it does not count. The types for an empty message come with a byte
+// that is none of the message's.
 fn sent(statistics: Statistics, protocol: u32, length: u32) -> Statistics
     ensures { λ r. ⌜ r ≡ countedBy protocol length statistics ⌝ }
 {

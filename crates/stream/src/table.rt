@@ -4,9 +4,8 @@ use model::Stream;
 ghost use mathlib.Core.Path.{_≡_};
 ghost use lib.ListN.{length, set};
 ghost use lib.Dec.{ltb};
-ghost use Rattle.model.specs.Streams.{find};
 ghost use Rattle.cells.specs.Slots.{roomOf};
-ghost use Rattle.stream.specs.Tables.{tableOf, placeOf, placed, joined};
+ghost use Rattle.stream.specs.Tables.{tableOf, sought, joined};
 
 // Where a stream stands, and the stream.
 pub enum Place {
@@ -30,7 +29,7 @@ pub fn len(count: usize, cells: &[u64]) -> usize
 
 // The first stream with the identifier.
 pub fn find(count: usize, cells: &[u64], identifier: u16) -> Place
-    ensures { λ r. ⌜ r ≡ placed (find identifier (tableOf count (now (cells .entry)))) (placeOf identifier (tableOf count (now (cells .entry)))) ⌝ }
+    ensures { λ r. ⌜ r ≡ sought identifier (tableOf count (now (cells .entry))) ⌝ }
 {
     let n = len(count, cells);
     let mut i = 0;

@@ -10,7 +10,7 @@ use Rattle.rows.specs.Turns.{read-turn, rest-none}
 use Rattle.rows.specs.Fills.{Filled, fill-start, fill-length, fill-all, fill-done, fill-as, fill-met}
 use Rattle.cells.specs.Chunks.{blankChunk}
 use Rattle.ring.specs.Held.{held}
-use Rattle.payload_queue.specs.Queue.{overdueEntry}
+use Rattle.payload_queue.specs.Queue.{flightOf, overdueEntry, overdueTsns}
 use Rattle.payload_queue.specs.Listing.{length-tsns, no-room, fits, fill-room, fill-step}
 use borrow.Author.Needs.{needs}
 use Rattle.payload_queue.proofs.expired.Statement.{statement}
@@ -32,7 +32,7 @@ returns c =
     let a = c .before .before .before .before .before .args in
     let p = overdueEntry (a .clock) (a .pending) in
     let e = held (a .q .ring) (now (a .cells)) in
-    let ts = tsnsOf p (a .q .oldest) e in
+    let ts = overdueTsns (a .clock) (a .pending) (flightOf (a .q) (now (a .cells))) in
     no-room ts (now (a .out)) (omega (arith, length-tsns p (a .q .oldest) e))
 
 count-requires : tie.Need-count-requires Inv-loop μ-loop
@@ -57,7 +57,7 @@ note-requires c κs =
     let l = c .before .before .before .before .loop in
     let p = overdueEntry (a .clock) (a .pending) in
     let e = held (a .q .ring) (now (a .cells)) in
-    let ts = tsnsOf p (a .q .oldest) e in
+    let ts = overdueTsns (a .clock) (a .pending) (flightOf (a .q) (now (a .cells))) in
     let r = read-turn e (l .i) blankChunk (c .before .before .nth .ensures) (omega arith) in
     fill-room ts (now (a .out)) p (l .inv .1) (l .tsn) (l .k) (drop (l .i) e) (l .out) (c .is-overdue .ensures) r (l .inv .2)
 
@@ -76,7 +76,7 @@ loop-again c =
     let l = c .before .before .before .before .before .before .before .before .loop in
     let p = overdueEntry (a .clock) (a .pending) in
     let e = held (a .q .ring) (now (a .cells)) in
-    let ts = tsnsOf p (a .q .oldest) e in
+    let ts = overdueTsns (a .clock) (a .pending) (flightOf (a .q) (now (a .cells))) in
     let r = read-turn e (l .i) blankChunk (c .before .before .before .before .before .before .nth .ensures) (omega arith) in
     let b = c .before .before .before .before .is-overdue in
     let n = c .before .before .before .note .ensures in
@@ -92,7 +92,7 @@ returns-2 c =
     let l = c .before .loop in
     let p = overdueEntry (a .clock) (a .pending) in
     let e = held (a .q .ring) (now (a .cells)) in
-    let ts = tsnsOf p (a .q .oldest) e in
+    let ts = overdueTsns (a .clock) (a .pending) (flightOf (a .q) (now (a .cells))) in
     let f = fill-as (ap (tsnsOf p (l .tsn)) (rest-none e (l .i) (omega arith))) (l .inv .2) in
     let g = fits ts (now (a .out)) (l .inv .1) in
     (ap Listed.Count (fill-all f) ∙ g .0, fill-done f ∙ g .1)
