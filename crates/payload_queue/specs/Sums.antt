@@ -2,9 +2,8 @@
 -- a call, and `n` the bytes that came or went.
 use mathlib.Core.Path.{_≡_, refl, ap, _∙_}
 use mathlib.Core.Bool.{Bool, true, false}
-use mathlib.Core.Logic.{⊎-elim}
 use mathlib.Core.List.{List, [], _∷_, _++_, map}
-use Prim.Native.Nat.{ℕ, zero, suc, _+_, _*_, _%_, _^_, _≤_, _<_}
+use Prim.Native.Nat.{ℕ, zero, suc, _+_, _%_, _^_, _<_}
 use native.Mathlib.Omega.{arith}
 use lib.ListN.{length, getD}
 use lib.Dec.{ltb}
@@ -13,47 +12,24 @@ use Rattle.model.specs.Lists.{if_then_else_, keep, adjust, total}
 use Rattle.model.specs.State.{isOf}
 use Rattle.model.specs.Rings.{bytes, marked, givenUp}
 use Rattle.model.specs.Flight.{acknowledged, toRetransmit}
-use Rattle.rows.specs.View.{lt-or-ge}
 use Rattle.rows.specs.Walks.{keep-total}
-use Rattle.cells.specs.Slots.{roomOf}
-use Rattle.cells.specs.Chunks.{chunks, blankChunk, chunk-past}
-use Rattle.cells.specs.Changes.{heldOf, length-in}
+use Rattle.cells.specs.Chunks.{blankChunk}
+use Rattle.cells.specs.Changes.{heldOf}
 use Rattle.ring.specs.declared.Ring.{Ring}
-use Rattle.ring.specs.Held.{held, slotOf, pushed, held-get, held-limit}
+use Rattle.ring.specs.Held.{held, pushed}
+use Rattle.ring.specs.Sums.{bytes-append, held-bytes}
 use Rattle.payload_queue.specs.declared.PayloadQueue.{PayloadQueue}
 use Rattle.payload_queue.specs.Queue.{Counted}
 
--- ---- they fit: at most 2 ^ 31 entries of 32-bit lengths
-
-slot-short : (k : ℕ) (ws : List ℕ) → getD (chunks ws) k blankChunk .length ≤ 4294967295
-slot-short k ws = ⊎-elim inside outside (lt-or-ge k (roomOf ws))
-  where
-    inside : k < roomOf ws → getD (chunks ws) k blankChunk .length ≤ 4294967295
-    inside h = omega (arith, length-in k ws h)
-
-    outside : roomOf ws ≤ k → getD (chunks ws) k blankChunk .length ≤ 4294967295
-    outside h = omega (arith, ap (λ (c : Chunk). c .length) (chunk-past k ws h))
-
-entry-short : (r : Ring) (ws : List ℕ) (i : ℕ) → getD (held r ws) i blankChunk .length ≤ 4294967295
-entry-short r ws i =
-    let k = slotOf r ws i in
-    omega (arith, ap (λ (c : Chunk). c .length) (held-get r ws i k refl), slot-short k ws)
-
-bytes-below : (l : List Chunk) → ((i : ℕ) → getD l i blankChunk .length ≤ 4294967295) → bytes l ≤ length l * 4294967295
-bytes-below [] h = omega arith
-bytes-below (c ∷ l) h = omega (arith, h 0, bytes-below l (λ i. h (suc i)))
+-- ---- they fit
 
 pub bytes-fit : (r : Ring) (ws : List ℕ) → bytes (held r ws) < 18446744073709551616
-bytes-fit r ws = omega (arith, held-limit r ws, bytes-below (held r ws) (entry-short r ws))
+bytes-fit r ws = omega (arith, held-bytes r ws)
 
 -- ---- what a change of the entries does to the sum
 
 pub bytes-pushed : (room : ℕ) (l : List Chunk) (c : Chunk) → ltb (length l) room ≡ true → bytes (pushed room l c) ≡ bytes l + c .length
-bytes-pushed room l c e = ap (λ (b : Bool). bytes (if b then l ++ (c ∷ []) else l)) e ∙ more l
-  where
-    more : (m : List Chunk) → bytes (m ++ (c ∷ [])) ≡ bytes m + c .length
-    more [] = omega arith
-    more (x ∷ m) = omega (arith, more m)
+bytes-pushed room l c e = ap (λ (b : Bool). bytes (if b then l ++ (c ∷ []) else l)) e ∙ omega (arith, bytes-append l (c ∷ []))
 
 pub bytes-stay : (room : ℕ) (l : List Chunk) (c : Chunk) → ltb (length l) room ≡ false → bytes (pushed room l c) ≡ bytes l
 bytes-stay room l c e = ap (λ (b : Bool). bytes (if b then l ++ (c ∷ []) else l)) e

@@ -1,2 +1,3 @@
 -- What a ring holds, and the laws that its calls' proofs and its callers' cite.
 pub mod Held
+pub mod Sums

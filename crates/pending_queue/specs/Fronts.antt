@@ -1,0 +1,85 @@
+-- The head is taken from its ring.
+use mathlib.Core.Path.{_≡_, refl, sym, ap, _∙_}
+use mathlib.Core.Bool.{Bool, true, false, not}
+use mathlib.Core.List.{List, [], _∷_}
+use Prim.Native.Nat.{ℕ, _+_}
+use native.Mathlib.Omega.{arith}
+use lib.ListN.{length, drop}
+use lib.Dec.{ltb}
+use borrow.Author.Tests.{lt-ltb}
+use Rattle.model.specs.declared.Chunk.{Chunk}
+use Rattle.model.specs.declared.Found.{Found}
+use Rattle.model.specs.declared.Lane.{Lane}
+use Rattle.model.specs.declared.Lane.the-variants.{Unordered, Ordered}
+use Rattle.model.specs.declared.UnderWay.{UnderWay}
+use Rattle.model.specs.declared.UnderWay.the-variants.{Idle}
+use Rattle.model.specs.Lists.{if_then_else_, first}
+use Rattle.model.specs.State.{Pending, at, laneOf, withRing}
+use Rattle.model.specs.Rings.{laneAhead, headLane, head, underWayAfter, bytes}
+use Rattle.model.specs.Flight.{found}
+use Rattle.pending_queue.specs.Queue.{underWayOf, bytesIn}
+
+-- the front of a ring, which is the list, is taken
+abbrev pub poppedFrom : Lane → List Chunk → Pending → Pending
+poppedFrom l [] p = p
+poppedFrom l (c ∷ x) p = withRing l (underWayAfter l c) x p
+
+-- the head is taken, if there is one; a non-ending fragment puts its message under way, an ending one ends that
+abbrev pub popped : Pending → Pending
+popped p = poppedFrom (headLane p) (at (headLane p) p) p
+
+-- ---- which ring it is in, where nothing is under way
+
+idle-ahead : (u : List Chunk) → laneOf (ltb 0 (length u)) ≡ laneAhead Idle u
+idle-ahead [] = refl
+idle-ahead (c ∷ u) = ap laneOf (lt-ltb 0 (length (c ∷ u)) (omega arith))
+
+pub ahead-idle : {s : Bool} (b : Bool) (u : List Chunk) {n : ℕ} → s ≡ false → n ≡ length u → laneOf (ltb 0 n) ≡ laneAhead (underWayOf s b) u
+ahead-idle b u e q = ap (λ (k : ℕ). laneOf (ltb 0 k)) q ∙ idle-ahead u ∙ ap (λ (t : Bool). laneAhead (underWayOf t b) u) (sym e)
+
+-- ---- the head is the front of its ring, as code reads it
+
+pub head-at : (p : Pending) {l : Lane} {f : Found} → l ≡ headLane p → f ≡ found (first (at l p)) → f ≡ found (head p)
+head-at p e q = q ∙ ap (λ (l : Lane). found (first (at l p))) e
+
+-- ---- the two ways of taking it
+
+none-from : (p : Pending) (l : Lane) (x : List Chunk) → found (first x) ≡ Found.Nothing → p ≡ poppedFrom l x p
+none-from p l [] e = refl
+none-from p l (c ∷ x) e = let z : _≡_ {A = ℕ} 0 1 = cc in absurd (omega arith)
+
+pub popped-none : (p : Pending) → found (head p) ≡ Found.Nothing → p ≡ popped p
+popped-none p e = none-from p (headLane p) (at (headLane p) p) e
+
+one-from : (p : Pending) (l : Lane) (x : List Chunk) (c : Chunk) → found (first x) ≡ Found.One c → withRing l (underWayAfter l c) (drop 1 x) p ≡ poppedFrom l x p
+one-from p l [] c e = let z : _≡_ {A = ℕ} 0 1 = cc in absurd (omega arith)
+one-from p l (d ∷ x) c e = let q : c ≡ d = cc in ap (λ (y : Chunk). withRing l (underWayAfter l y) x p) q
+
+-- the flags behind a chunk
+flags-after : (e b : Bool) → underWayOf (not e) b ≡ (if e then Idle else underWayOf true b)
+flags-after true b = refl
+flags-after false b = refl
+
+pub popped-one : (p : Pending) (b : Bool) (c : Chunk) {x : List Chunk} → laneOf b ≡ headLane p → found (head p) ≡ Found.One c → x ≡ drop 1 (at (laneOf b) p)
+    → withRing (laneOf b) (underWayOf (not (c .ending)) b) x p ≡ popped p
+popped-one p b c e q r =
+    ap (λ (y : List Chunk). withRing (laneOf b) (underWayOf (not (c .ending)) b) y p) r
+    ∙ ap (λ (w : UnderWay). withRing (laneOf b) w (drop 1 (at (laneOf b) p)) p) (flags-after (c .ending) b)
+    ∙ ap (λ (l : Lane). withRing l (underWayAfter l c) (drop 1 (at l p)) p) e
+    ∙ one-from p (headLane p) (at (headLane p) p) c q
+
+-- the bytes that are left
+left-from : (p : Pending) (l : Lane) (c : Chunk) → found (first (at l p)) ≡ Found.One c → bytesIn (poppedFrom l (at l p) p) + c .length ≡ bytesIn p
+left-from p Unordered c e = by (p .unordered) e
+  where
+    by : (x : List Chunk) → found (first x) ≡ Found.One c → bytesIn (poppedFrom Unordered x p) + c .length ≡ bytes x + bytes (p .ordered)
+    by [] e = let z : _≡_ {A = ℕ} 0 1 = cc in absurd (omega arith)
+    by (d ∷ x) e = let q : c ≡ d = cc in omega (arith, ap (λ (y : Chunk). y .length) q)
+left-from p Ordered c e = by (p .ordered) e
+  where
+    by : (x : List Chunk) → found (first x) ≡ Found.One c → bytesIn (poppedFrom Ordered x p) + c .length ≡ bytes (p .unordered) + bytes x
+    by [] e = let z : _≡_ {A = ℕ} 0 1 = cc in absurd (omega arith)
+    by (d ∷ x) e = let q : c ≡ d = cc in omega (arith, ap (λ (y : Chunk). y .length) q)
+
+pub popped-bytes : (p : Pending) (c : Chunk) → found (head p) ≡ Found.One c → bytesIn (popped p) + c .length ≡ bytesIn p
+popped-bytes p c e = left-from p (headLane p) c e

@@ -1,0 +1,505 @@
+// What is pending: two rings of chunks in lent cells, and which of them the message under way is in. The numbers and flags go by value,
+// and `pendingIn` of specs/ reads the model's `Pending` from them and from the cells, for every value at all. `bytes` is kept as the
+// chunks come and go: where it was their sum (`Counted`), it is so after each call.
+use limits::Moment;
+use model::Chunk;
+use model::Found;
+use model::Message;
+use ring::Ring;
+ghost use mathlib.Core.Path.{_≡_};
+ghost use mathlib.Core.Bool.{true};
+ghost use mathlib.Core.List.{List, _++_, map};
+ghost use Prim.Native.Nat.{ℕ, _+_, _-_, _≤_, min};
+ghost use lib.ListN.{length};
+ghost use Rattle.limits.specs.Limits.{clockMax};
+ghost use Rattle.model.specs.Lists.{some-of, last};
+ghost use Rattle.model.specs.State.{laneOf, inRings, isOf};
+ghost use Rattle.model.specs.Messages.{pieces, piece, cut};
+ghost use Rattle.model.specs.Rings.{laneAhead, head, lowered, ended, bytes};
+ghost use Rattle.model.specs.Flight.{found, hasStream};
+ghost use Rattle.demands.specs.States.{dropRun};
+ghost use Rattle.rows.specs.Walks.{takeWhile};
+ghost use Rattle.cells.specs.Slots.{roomOf};
+ghost use Rattle.ring.specs.Held.{held};
+ghost use Rattle.pending_queue.specs.Queue.{underWayOf, noPending, pendingIn, Counted};
+ghost use Rattle.pending_queue.specs.Fragments.{sizeOf, bytesOf, fits, added, fitsIn, withFragments};
+ghost use Rattle.pending_queue.specs.Fronts.{popped};
+ghost use Rattle.pending_queue.specs.Lifetimes.{startedEnd};
+ghost use Rattle.pending_queue.specs.Runs.{laterOf, runs, withoutRuns};
+
+// `selected` says that a message has been sent in part, and `unordered_is_selected` in which ring its rest is.
+pub struct PendingQueue {
+    pub unordered: Ring,
+    pub ordered: Ring,
+    pub bytes: u64,
+    pub selected: bool,
+    pub unordered_is_selected: bool,
+}
+
+pub struct Pushed {
+    pub queue: PendingQueue,
+    pub done: bool,
+}
+
+pub struct Popped {
+    pub queue: PendingQueue,
+    pub front: Found,
+}
+
+// `bytes` is what the removed chunks held, and `last` the last of them.
+pub struct Removed {
+    pub queue: PendingQueue,
+    pub bytes: u64,
+    pub last: Found,
+}
+
+// Nothing is pending, whatever the cells are.
+pub fn new() -> PendingQueue
+    ensures { λ r. ⌜ ((unordered ordered : List ℕ) → (pendingIn r unordered ordered ≡ noPending) × Counted r unordered ordered) ⌝ }
+{
+    let empty = Ring { start: 0, len: 0 };
+    PendingQueue {
+        unordered: empty,
+        ordered: empty,
+        bytes: 0,
+        selected: false,
+        unordered_is_selected: false,
+    }
+}
+
+// ---- the front
+
+// Whether the next chunk is the unordered front.
+fn from_unordered(queue: PendingQueue, unordered: &[u64]) -> bool
+    ensures { λ r. ⌜ laneOf r ≡ laneAhead (underWayOf (queue .selected) (queue .«unordered_is_selected»)) (held (queue .unordered) (now (unordered .entry))) ⌝ }
+{
+    if queue.selected {
+        return queue.unordered_is_selected;
+    }
+    0 < ring::count(queue.unordered, unordered)
+}
+
+// The chunk that is sent next: of the message under way, else the unordered front, else the ordered one.
+pub fn peek(queue: PendingQueue, unordered: &[u64], ordered: &[u64]) -> Found
+    ensures { λ r. ⌜ r ≡ found (head (pendingIn queue (now (unordered .entry)) (now (ordered .entry)))) ⌝ }
+{
+    if from_unordered(queue, unordered) {
+        return ring::peek(queue.unordered, unordered);
+    }
+    ring::peek(queue.ordered, ordered)
+}
+
+// Takes that chunk. One that does not end its message puts this under way.
+pub fn pop(queue: PendingQueue, unordered: &[u64], ordered: &[u64]) -> Popped
+    ensures { λ r. ⌜ (pendingIn (r .queue) (now (unordered .entry)) (now (ordered .entry)) ≡ popped (pendingIn queue (now (unordered .entry)) (now (ordered .entry)))) × (r .front ≡ found (head (pendingIn queue (now (unordered .entry)) (now (ordered .entry))))) × (Counted queue (now (unordered .entry)) (now (ordered .entry)) → Counted (r .queue) (now (unordered .entry)) (now (ordered .entry))) ⌝ }
+{
+    let front = peek(queue, unordered, ordered);
+    let Found::One(chunk) = front else {
+        return Popped {
+            queue: queue,
+            front: Found::Nothing,
+        };
+    };
+    let bytes = std::num::wrapping_sub_u64(queue.bytes, chunk.length as u64);
+    let selected = !chunk.ending;
+    let unordered_ring = queue.unordered;
+    let ordered_ring = queue.ordered;
+    if from_unordered(queue, unordered) {
+        let rest = ring::shorter(unordered_ring, unordered);
+        return Popped {
+            queue: PendingQueue {
+                unordered: rest,
+                ordered: ordered_ring,
+                bytes: bytes,
+                selected: selected,
+                unordered_is_selected: true,
+            },
+            front: front,
+        };
+    }
+    let rest = ring::shorter(ordered_ring, ordered);
+    Popped {
+        queue: PendingQueue {
+            unordered: unordered_ring,
+            ordered: rest,
+            bytes: bytes,
+            selected: selected,
+            unordered_is_selected: false,
+        },
+        front: front,
+    }
+}
+
+// ---- a message in fragments
+
+// How many there are: none where the maximum is 0.
+fn fragments(length: u32, maximum: u16) -> usize
+    ensures { λ r. ⌜ (r ≡ pieces length maximum) × (r ≤ 4295032829) ⌝ }
+{
+    if maximum == 0 {
+        return 0;
+    }
+    let most = maximum as u64;
+    ((length as u64 + (most - 1)) / most) as usize
+}
+
+// The bytes of all of them.
+fn fragments_bytes(length: u32, maximum: u16) -> u64
+    ensures { λ r. ⌜ r ≡ bytesOf length maximum ⌝ }
+{
+    if maximum == 0 {
+        return 0;
+    }
+    length as u64
+}
+
+// The bytes of the next one, where k are to come: the last has the rest.
+fn size(k: usize, maximum: u16, left: u32) -> u32
+    ensures { λ r. ⌜ r ≡ sizeOf k maximum left ⌝ }
+{
+    if k == 1 { left } else { maximum as u32 }
+}
+
+// What is left behind it.
+fn less(left: u32, maximum: u16) -> u32
+    ensures { λ r. ⌜ r ≡ left - maximum ⌝ }
+{
+    let most = maximum as u32;
+    if left < most { 0 } else { left - most }
+}
+
+fn fragment(message: Message, beginning: bool, ending: bool, offset: u64, length: u32) -> Chunk
+    ensures { λ r. ⌜ r ≡ piece message beginning ending offset length ⌝ }
+{
+    Chunk {
+        message: message,
+        beginning: beginning,
+        ending: ending,
+        offset: offset,
+        length: length,
+        since: Moment::Absent,
+        nsent: 0,
+        acked: false,
+        abandoned: false,
+        retransmit: false,
+    }
+}
+
+// Whether they are added: all or none.
+fn fitting(ring: Ring, cells: &[u64], maximum: u16, offset: u64, length: u32) -> bool
+    ensures { λ r. ⌜ r ≡ fits (roomOf (now (cells .entry))) maximum offset length (held ring (now (cells .entry))) ⌝ }
+{
+    if limits::OFFSET_MAX < offset {
+        return false;
+    }
+    ring::count(ring, cells) + fragments(length, maximum) <= cells::room(cells)
+}
+
+// Each fragment goes to the end of the ring.
+fn cut_into(
+    ring: Ring,
+    cells: &mut [u64],
+    message: Message,
+    maximum: u16,
+    offset: u64,
+    length: u32,
+) -> Ring
+    requires { ⌜ fits (roomOf (now cells)) maximum offset length (held ring (now cells)) ≡ true ⌝ }
+    ensures { λ r. ⌜ held r (now (cells .exit)) ≡ held ring (now (cells .entry)) ++ cut message true (pieces length maximum) maximum offset length ⌝ }
+{
+    let mut longer = ring;
+    let mut k = fragments(length, maximum);
+    let mut from = offset;
+    let mut left = length;
+    let mut first = true;
+    while 0 < k {
+        let bytes = size(k, maximum, left);
+        let chunk = fragment(message, first, k == 1, from, bytes);
+        let pushed = ring::push(longer, cells, chunk);
+        longer = pushed.ring;
+        from += maximum as u64;
+        left = less(left, maximum);
+        first = false;
+        k -= 1;
+    }
+    longer
+}
+
+struct Added {
+    ring: Ring,
+    bytes: u64,
+    done: bool,
+}
+
+// The fragments at the end of a ring, and the bytes that they bring.
+fn add_fragments(
+    ring: Ring,
+    cells: &mut [u64],
+    message: Message,
+    maximum: u16,
+    offset: u64,
+    length: u32,
+) -> Added
+    ensures { λ r. ⌜ (held (r .ring) (now (cells .exit)) ≡ added (roomOf (now (cells .entry))) message maximum offset length (held ring (now (cells .entry)))) × (r .done ≡ fits (roomOf (now (cells .entry))) maximum offset length (held ring (now (cells .entry)))) × (bytes (held (r .ring) (now (cells .exit))) ≡ bytes (held ring (now (cells .entry))) + r .bytes) ⌝ }
+{
+    if !fitting(ring, cells, maximum, offset, length) {
+        return Added {
+            ring: ring,
+            bytes: 0,
+            done: false,
+        };
+    }
+    let longer = cut_into(ring, cells, message, maximum, offset, length);
+    Added {
+        ring: longer,
+        bytes: fragments_bytes(length, maximum),
+        done: true,
+    }
+}
+
+// A message's fragments join the back of its ring. Where there is no room for all of them, or the offset is beyond its limit, nothing
+// changes: the caller has refused such a message before.
+pub fn push_fragments(
+    queue: PendingQueue,
+    unordered: &mut [u64],
+    ordered: &mut [u64],
+    message: Message,
+    maximum: u16,
+    offset: u64,
+    length: u32,
+) -> Pushed
+    ensures { λ r. ⌜ (pendingIn (r .queue) (now (unordered .exit)) (now (ordered .exit)) ≡ withFragments (now (unordered .entry)) (now (ordered .entry)) message maximum offset length (pendingIn queue (now (unordered .entry)) (now (ordered .entry)))) × (r .done ≡ fitsIn (now (unordered .entry)) (now (ordered .entry)) message maximum offset length (pendingIn queue (now (unordered .entry)) (now (ordered .entry)))) × (Counted queue (now (unordered .entry)) (now (ordered .entry)) → Counted (r .queue) (now (unordered .exit)) (now (ordered .exit))) ⌝ }
+{
+    let unordered_ring = queue.unordered;
+    let ordered_ring = queue.ordered;
+    if message.unordered {
+        let result = add_fragments(unordered_ring, unordered, message, maximum, offset, length);
+        let longer = result.ring;
+        return Pushed {
+            queue: PendingQueue {
+                unordered: longer,
+                ordered: ordered_ring,
+                bytes: std::num::wrapping_add_u64(queue.bytes, result.bytes),
+                selected: queue.selected,
+                unordered_is_selected: queue.unordered_is_selected,
+            },
+            done: result.done,
+        };
+    }
+    let result = add_fragments(ordered_ring, ordered, message, maximum, offset, length);
+    let longer = result.ring;
+    Pushed {
+        queue: PendingQueue {
+            unordered: unordered_ring,
+            ordered: longer,
+            bytes: std::num::wrapping_add_u64(queue.bytes, result.bytes),
+            selected: queue.selected,
+            unordered_is_selected: queue.unordered_is_selected,
+        },
+        done: result.done,
+    }
+}
+
+// ---- lifetimes
+
+// From the back of a ring to the first chunk of a message that was seen.
+fn start_end(ring: Ring, cells: &mut [u64], clock: u64, first: u64)
+    ensures { λ _. ⌜ held ring (now (cells .exit)) ≡ startedEnd (min clock clockMax) first (held ring (now (cells .entry))) ⌝ }
+{
+    let mut i = ring::count(ring, cells);
+    while 0 < i {
+        let number = ring::nth_number(ring, cells, i - 1);
+        if number < first {
+            return;
+        }
+        i -= 1;
+        ring::start_nth(ring, cells, i, clock, first);
+    }
+}
+
+// Starts the lifetimes of the messages not yet seen, whose numbers are `first` and up: the rings are in the order of these, so the
+// others stand before them. A clock beyond its limit is taken as the limit.
+pub fn start_timed_messages(
+    queue: PendingQueue,
+    unordered: &mut [u64],
+    ordered: &mut [u64],
+    clock: u64,
+    first: u64,
+)
+    ensures { λ _. ⌜ (pendingIn queue (now (unordered .exit)) (now (ordered .exit)) ≡ inRings (startedEnd (min clock clockMax) first) (pendingIn queue (now (unordered .entry)) (now (ordered .entry)))) × (Counted queue (now (unordered .entry)) (now (ordered .entry)) → Counted queue (now (unordered .exit)) (now (ordered .exit))) ⌝ }
+{
+    start_end(queue.unordered, unordered, clock, first);
+    start_end(queue.ordered, ordered, clock, first);
+}
+
+// ---- a message leaves
+
+struct Run {
+    ring: Ring,
+    bytes: u64,
+    last: Found,
+}
+
+// The leading run of a message leaves a ring.
+fn remove_run(ring: Ring, cells: &[u64], number: u64) -> Run
+    ensures { λ r. ⌜ (held (r .ring) (now (cells .entry)) ≡ dropRun number (held ring (now (cells .entry)))) × (r .bytes ≡ bytes (takeWhile (isOf number) (held ring (now (cells .entry))))) × (r .last ≡ found (last (takeWhile (isOf number) (held ring (now (cells .entry)))))) × (r .bytes ≤ 9223372034707292160) ⌝ }
+{
+    let mut rest = ring;
+    let mut n = ring::count(ring, cells);
+    let mut bytes: u64 = 0;
+    let mut last = Found::Nothing;
+    while 0 < n {
+        let chunk = ring::nth(rest, cells, 0);
+        if chunk.message.number != number {
+            return Run {
+                ring: rest,
+                bytes: bytes,
+                last: last,
+            };
+        }
+        bytes += chunk.length as u64;
+        last = Found::One(chunk);
+        rest = ring::shorter(rest, cells);
+        n -= 1;
+    }
+    Run {
+        ring: rest,
+        bytes: bytes,
+        last: last,
+    }
+}
+
+// The second if there is one, else the first.
+fn later(first: Found, second: Found) -> Found
+    ensures { λ r. ⌜ r ≡ laterOf first second ⌝ }
+{
+    let Found::One(chunk) = second else {
+        return first;
+    };
+    Found::One(chunk)
+}
+
+// Whether a message is still under way without this one.
+fn still_selected(queue: PendingQueue, unordered: &[u64], ordered: &[u64], number: u64) -> bool
+    ensures { λ r. ⌜ underWayOf r (queue .«unordered_is_selected») ≡ ended number (head (pendingIn queue (now (unordered .entry)) (now (ordered .entry)))) (underWayOf (queue .selected) (queue .«unordered_is_selected»)) ⌝ }
+{
+    let front = peek(queue, unordered, ordered);
+    let Found::One(chunk) = front else {
+        return queue.selected;
+    };
+    if chunk.message.number == number {
+        return false;
+    }
+    queue.selected
+}
+
+// Removes the leading run of a message from each ring. In every state that calls reach, a message at the head or in flight has no other
+// chunks pending.
+pub fn remove_message(
+    queue: PendingQueue,
+    unordered: &[u64],
+    ordered: &[u64],
+    number: u64,
+) -> Removed
+    ensures { λ r. ⌜ (pendingIn (r .queue) (now (unordered .entry)) (now (ordered .entry)) ≡ withoutRuns number (pendingIn queue (now (unordered .entry)) (now (ordered .entry)))) × (r .bytes ≡ bytes (runs number (pendingIn queue (now (unordered .entry)) (now (ordered .entry))))) × (r .last ≡ found (last (runs number (pendingIn queue (now (unordered .entry)) (now (ordered .entry)))))) × (Counted queue (now (unordered .entry)) (now (ordered .entry)) → Counted (r .queue) (now (unordered .entry)) (now (ordered .entry))) ⌝ }
+{
+    let selected = still_selected(queue, unordered, ordered, number);
+    let one = remove_run(queue.ordered, ordered, number);
+    let other = remove_run(queue.unordered, unordered, number);
+    let ordered_ring = one.ring;
+    let unordered_ring = other.ring;
+    let one_last = one.last;
+    let other_last = other.last;
+    let removed = one.bytes + other.bytes;
+    let last = later(one_last, other_last);
+    Removed {
+        queue: PendingQueue {
+            unordered: unordered_ring,
+            ordered: ordered_ring,
+            bytes: std::num::wrapping_sub_u64(queue.bytes, removed),
+            selected: selected,
+            unordered_is_selected: queue.unordered_is_selected,
+        },
+        bytes: removed,
+        last: last,
+    }
+}
+
+// Closes the gap in a stream's SSNs behind an ordered message that leaves wholly unsent.
+pub fn compact_ordered_ssns(queue: PendingQueue, ordered: &mut [u64], stream: u16)
+    ensures { λ _. ⌜ (held (queue .ordered) (now (ordered .exit)) ≡ map (lowered stream) (held (queue .ordered) (now (ordered .entry)))) × ((unordered : List ℕ) → Counted queue unordered (now (ordered .entry)) → Counted queue unordered (now (ordered .exit))) ⌝ }
+{
+    let ring = queue.ordered;
+    let n = ring::count(ring, ordered);
+    let mut i = 0;
+    while i < n {
+        ring::lower_nth(ring, ordered, i, stream);
+        i += 1;
+    }
+}
+
+// ---- what is asked
+
+pub fn len(queue: PendingQueue, unordered: &[u64], ordered: &[u64]) -> usize
+    ensures { λ r. ⌜ r ≡ length (held (queue .unordered) (now (unordered .entry))) + length (held (queue .ordered) (now (ordered .entry))) ⌝ }
+{
+    ring::count(queue.unordered, unordered) + ring::count(queue.ordered, ordered)
+}
+
+// The kept sum of all bytes.
+pub fn bytes(queue: PendingQueue) -> u64
+    ensures { λ r. ⌜ r ≡ queue .bytes ⌝ }
+{
+    queue.bytes
+}
+
+fn has_message(ring: Ring, cells: &[u64], number: u64) -> bool
+    ensures { λ r. ⌜ r ≡ some-of (isOf number) (held ring (now (cells .entry))) ⌝ }
+{
+    let n = ring::count(ring, cells);
+    let mut i = 0;
+    while i < n {
+        if ring::nth_number(ring, cells, i) == number {
+            return true;
+        }
+        i += 1;
+    }
+    false
+}
+
+fn has_stream(ring: Ring, cells: &[u64], stream: u16) -> bool
+    ensures { λ r. ⌜ r ≡ hasStream stream (held ring (now (cells .entry))) ⌝ }
+{
+    let n = ring::count(ring, cells);
+    let mut i = 0;
+    while i < n {
+        if ring::nth_stream(ring, cells, i) == stream {
+            return true;
+        }
+        i += 1;
+    }
+    false
+}
+
+pub fn contains_message(
+    queue: PendingQueue,
+    unordered: &[u64],
+    ordered: &[u64],
+    number: u64,
+) -> bool
+    ensures { λ r. ⌜ r ≡ some-of (isOf number) (held (queue .unordered) (now (unordered .entry)) ++ held (queue .ordered) (now (ordered .entry))) ⌝ }
+{
+    if has_message(queue.unordered, unordered, number) {
+        return true;
+    }
+    has_message(queue.ordered, ordered, number)
+}
+
+pub fn contains_stream(queue: PendingQueue, unordered: &[u64], ordered: &[u64], stream: u16) -> bool
+    ensures { λ r. ⌜ r ≡ hasStream stream (held (queue .unordered) (now (unordered .entry)) ++ held (queue .ordered) (now (ordered .entry))) ⌝ }
+{
+    if has_stream(queue.unordered, unordered, stream) {
+        return true;
+    }
+    has_stream(queue.ordered, ordered, stream)
+}
