@@ -1,5 +1,6 @@
 // 01's examples that are run, each on a line of its own with its label; what it writes is held to the file stdout.
 mod estimates;
+mod queues;
 mod show;
 mod timers;
 
@@ -8,4 +9,6 @@ fn main() {
     timers::refusals();
     estimates::measurements();
     estimates::refusals();
+    queues::flight();
+    queues::rings();
 }

@@ -11,6 +11,10 @@ pub fn number(label: &[u8], n: u64) {
     io::print_decimal(STDOUT_FILENO, n);
 }
 
+pub fn short(label: &[u8], n: u32) {
+    number(label, n as u64);
+}
+
 // A missing moment is a dash.
 pub fn moment(label: &[u8], m: Moment) {
     match m {

@@ -23,6 +23,7 @@ use Rattle.payload_queue.specs.Queue.{acked, heldIn, Pop, poppedOf, isAw
 abbrev pub withFlight : Flight → Sender → Sender
 withFlight f s = record { streams = s .streams; pending = s .pending; flight = f; numbers = s .numbers }
 
+-- `popped` is the model's pop
 pub popping-is : (l : List Chunk) (t : ℕ) (s : Sender)
     → popping l t s ≡ record { after = withFlight (poppedOf l t (s .flight) .flight) s; says = poppedOf l t (s .flight) .front }
 popping-is [] t s = refl
@@ -41,6 +42,7 @@ popping-is (c ∷ l) t s = go (eqb t (s .flight .oldest))
     go true = refl
     go false = refl
 
+-- `acked` and `heldIn` are the model's acknowledging: of an unknown TSN there is no entry to change
 pub acknowledging-is : (t : ℕ) (s : Sender)
     → acknowledging (inFlight t (s .flight)) t s ≡ record { after = withFlight (acked t (s .flight)) s; says = heldIn (inFlight t (s .flight)) }
 acknowledging-is t s = go (inFlight t (s .flight)) refl
@@ -63,6 +65,7 @@ Names w p l =
     (i : ℕ) → i < length l
     → isAwaited w (getD l i blankChunk .message .number) ≡ some-of (isOf (getD l i blankChunk .message .number)) (p .unordered ++ p .ordered)
 
+-- then the test is the model's of each entry
 overdue-is : (now : ℕ) (w : Pending) (p : Waiting) (c : Chunk) → isAwaited w (c .message .number) ≡ some-of (isOf (c .message .number)) (p .unordered ++ p .ordered)
     → overdueEntry now w c ≡ expiredEntry now p c
 unfolding overdueEntry
