@@ -1,0 +1,47 @@
+-- What the queue's numbers and the lent cells mean as the model's sender, and what the calls lean on of the states that calls reach.
+use mathlib.Core.Path.{_≡_}
+use mathlib.Core.Bool.{not}
+use mathlib.Core.Option.{some}
+use mathlib.Core.List.{List, []}
+use Prim.Native.Nat.{ℕ}
+use Rattle.limits.specs.Limits.{Room}
+use Rattle.model.specs.declared.Chunk.{Chunk}
+use Rattle.model.specs.declared.Lane.{Lane}
+use Rattle.model.specs.Lists.{keep}
+use Rattle.model.specs.State.{Sender, at, isOf}
+use Rattle.model.specs.Rings.{head}
+use Rattle.demands.specs.Words.{numberUnderWay}
+use Rattle.demands.specs.States.{Kept, Ascending, Has, dropRun}
+use Rattle.cells.specs.Slots.{roomOf}
+use Rattle.payload_queue.specs.Queue.{flightOf, Counted as FlightCounted}
+use Rattle.pending_queue.specs.Queue.{pendingIn, Counted as PendingCounted}
+use Rattle.outbound_queue.specs.declared.OutboundQueue.{OutboundQueue}
+
+-- the sender without its streams, which this queue does not know: by the cells of the two rings and of the flight
+abbrev pub senderOf : OutboundQueue → (unordered ordered flight : List ℕ) → Sender
+senderOf q u o f =
+    record {
+      streams = [];
+      pending = pendingIn (q .pending) u o;
+      flight = flightOf (q .inflight) f;
+      numbers = record { next = q .«next_message_id»; unstarted = q .«next_unstarted_message_id» };
+    }
+
+-- what the cells of the flight have room for; what the other parts of a sender have is not asked by these calls
+abbrev pub roomIn : (flight : List ℕ) → Room
+roomIn f = record { streams = 0; message = 0; ring = 0; flight = roomOf f }
+
+-- both counters of bytes are sums
+abbrev pub Counted : OutboundQueue → (unordered ordered flight : List ℕ) → Type 0
+Counted q u o f = PendingCounted (q .pending) u o × FlightCounted (q .inflight) f
+
+-- what code leans on of the states that calls reach: see `Kept` of the demands
+pub record Good (s : Sender) : Type 0 where
+  pub ordered : (l : Lane) → Ascending 0 (at l (s .pending))
+  pub headRun : (c : Chunk) → head (s .pending) ≡ some c → (l : Lane) → keep (λ d. not (isOf (c .message .number) d)) (at l (s .pending)) ≡ dropRun (c .message .number) (at l (s .pending))
+  pub flightRun : (n : ℕ) → Has n (s .flight .entries) → (l : Lane) → keep (λ d. not (isOf n d)) (at l (s .pending)) ≡ dropRun n (at l (s .pending))
+  pub partly : (l : Lane) (n : ℕ) → Has n (at l (s .pending)) → Has n (s .flight .entries) → numberUnderWay (s .pending) ≡ some n
+
+-- and so it is in all of these
+pub kept-good : {room : Room} {s : Sender} → Kept room s → Good s
+kept-good k = record { ordered = k .ordered; headRun = k .headRun; flightRun = k .flightRun; partly = k .partly }
