@@ -1,9 +1,10 @@
 -- What the queue's numbers and the lent cells mean as the model's sender, and what the calls lean on of the states that calls reach.
 use mathlib.Core.Path.{_≡_}
-use mathlib.Core.Bool.{not}
+use mathlib.Core.Bool.{false, not}
 use mathlib.Core.Option.{some}
 use mathlib.Core.List.{List, []}
-use Prim.Native.Nat.{ℕ}
+use Prim.Native.Nat.{ℕ, _<_}
+use lib.ListN.{length}
 use Rattle.limits.specs.Limits.{Room}
 use Rattle.model.specs.declared.Chunk.{Chunk}
 use Rattle.model.specs.declared.Lane.{Lane}
@@ -36,12 +37,15 @@ abbrev pub Counted : OutboundQueue → (unordered ordered flight : List ℕ) →
 Counted q u o f = PendingCounted (q .pending) u o × FlightCounted (q .inflight) f
 
 -- what code leans on of the states that calls reach: see `Kept` of the demands
-pub record Good (s : Sender) : Type 0 where
+pub record Good (room : Room) (s : Sender) : Type 0 where
   pub ordered : (l : Lane) → Ascending 0 (at l (s .pending))
   pub headRun : (c : Chunk) → head (s .pending) ≡ some c → (l : Lane) → keep (λ d. not (isOf (c .message .number) d)) (at l (s .pending)) ≡ dropRun (c .message .number) (at l (s .pending))
   pub flightRun : (n : ℕ) → Has n (s .flight .entries) → (l : Lane) → keep (λ d. not (isOf n d)) (at l (s .pending)) ≡ dropRun n (at l (s .pending))
   pub partly : (l : Lane) (n : ℕ) → Has n (at l (s .pending)) → Has n (s .flight .entries) → numberUnderWay (s .pending) ≡ some n
+  pub headRest : (c : Chunk) → head (s .pending) ≡ some c → c .beginning ≡ false → numberUnderWay (s .pending) ≡ some (c .message .number)
+  pub terminatorRoom : (n : ℕ) → numberUnderWay (s .pending) ≡ some n → length (s .flight .entries) < room .flight
 
 -- and so it is in all of these
-pub kept-good : {room : Room} {s : Sender} → Kept room s → Good s
-kept-good k = record { ordered = k .ordered; headRun = k .headRun; flightRun = k .flightRun; partly = k .partly }
+pub kept-good : {room : Room} {s : Sender} → Kept room s → Good room s
+kept-good k =
+    record { ordered = k .ordered; headRun = k .headRun; flightRun = k .flightRun; partly = k .partly; headRest = k .headRest; terminatorRoom = k .terminatorRoom }
