@@ -6,10 +6,10 @@ use mathlib.Core.Option.{Option, none, some}
 use mathlib.Core.List.{List, [], _∷_, _++_}
 use Prim.Native.Nat.{ℕ, zero, suc, _≤_, _<_}
 use native.Mathlib.Omega.{arith}
-use lib.ListN.{length, getD, take, drop}
+use lib.ListN.{length, getD, drop}
 use lib.Dec.{ltb, eqb}
 use borrow.Author.Tests.{lt-ltb, le-ltb, eq-eqb, eqb-true}
-use Rattle.limits.specs.Limits.{clockMax}
+use Rattle.limits.specs.Limits.{Room, clockMax}
 use Rattle.limits.specs.Refusals.{beyondLimit, listShort}
 use Rattle.model.specs.declared.Chunk.{Chunk}
 use Rattle.model.specs.declared.Found.{Found}
@@ -20,7 +20,7 @@ use Rattle.model.specs.declared.UnderWay.{UnderWay}
 use Rattle.model.specs.declared.UnderWay.the-variants.{Idle, Sending}
 use Rattle.model.specs.Lists.{if_then_else_, keep, some-of}
 use Rattle.model.specs.State.{Sender, laneOf, isOf}
-use Rattle.model.specs.Rings.{Listing, tsnsAre, refused, tsnsOf, expiredEntry, listing, expiredInflight}
+use Rattle.model.specs.Rings.{Listing, tsnsAre, refused, listing, expiredInflight}
 use Rattle.model.specs.Flight.{found}
 use Rattle.demands.specs.Words.{numberUnderWay, numberOfHead}
 use Rattle.demands.specs.States.{Has}
@@ -30,14 +30,10 @@ use Rattle.payload_queue.specs.Queue.{isAwaited, overdueTsns, listed, written}
 use Rattle.payload_queue.specs.Model.{Names, expired-is}
 use Rattle.pending_queue.specs.Queue.{underWayOf, some-in}
 use Rattle.outbound_queue.specs.Outbound.{Good}
+use Rattle.outbound_queue.specs.Lean.{named, leanList, listedIn}
 
--- ---- the message that is named
+-- ---- the message that is named, as code finds it
 
-abbrev pub named : Option ℕ → Pending
-named none = Pending.Nothing
-named (some n) = Pending.Message n
-
--- as code finds it
 pub named-none : (w : UnderWay) (h : Option Chunk) → found h ≡ Found.Nothing → Pending.Nothing ≡ named (numberOfHead w h)
 named-none Idle h e = refl
 named-none (Sending l) none e = refl
@@ -88,7 +84,7 @@ pending-head (Sending Ordered) u (c ∷ o) n e =
     let k : c .message .number ≡ n = cc in
     sym (some-in (isOf n) u (c ∷ o) refl) ∙ or-true (some-of (isOf n) u) (ap (λ (b : Bool). b || some-of (isOf n) o) (eq-eqb (c .message .number) n k))
 
-module _ (s : Sender) (g : Good s) where
+module _ {room : Room} (s : Sender) (g : Good room s) where
   which : (n : ℕ) → some-of (isOf n) (s .pending .unordered ++ s .pending .ordered) ≡ true → Has n (s .flight .entries) → numberUnderWay (s .pending) ≡ some n
   which n e f = by (some-of (isOf n) (s .pending .unordered)) refl (some-in (isOf n) (s .pending .unordered) (s .pending .ordered) refl ∙ e)
     where
@@ -116,36 +112,36 @@ module _ (s : Sender) (g : Good s) where
       go true e = ap (λ (w : Option ℕ). isAwaited (named w) n) (which n e (some-has n (s .flight .entries) (has-at (s .flight .entries) i h))) ∙ eq-eqb n n refl
       go false e = not-named n e (numberUnderWay (s .pending)) refl
 
--- ---- the answer with the lent list is the model's listing
+-- ---- in a Good state the list is the model's
 
-abbrev pub listingOf : Listed → (out : List ℕ) → Listing
-listingOf (Listed.Count n) out = tsnsAre (take n out)
-listingOf (Listed.Refused n) out = refused n
+pub lean-list : (now n : ℕ) {room : Room} {s : Sender} → Good room s → leanList now n s ≡ expiredInflight now n s
+unfolding leanList expiredInflight
+lean-list now n {room} {s} g =
+    ap (λ (l : List ℕ). if ltb clockMax now then refused beyondLimit else listing n l) (expired-is now (named (numberUnderWay (s .pending))) (s .pending) (s .flight) (names s g))
 
-take-front : (l m : List ℕ) → take (length l) (l ++ m) ≡ l
-take-front [] m = refl
-take-front (x ∷ l) m = ap (λ (k : List ℕ). x ∷ k) (take-front l m)
+-- ---- the ways out
 
-listing-is : (ts out : List ℕ) → listingOf (listed ts out) (written ts out) ≡ listing (length out) ts
+-- the answer and the lent list, by the TSNs
+listing-is : (ts out : List ℕ) → record { answer = listed ts out; list = written ts out } ≡ listedIn out (listing (length out) ts)
 listing-is ts out = by (ltb (length out) (length ts))
   where
-    by : (b : Bool) → listingOf (if b then Listed.Refused listShort else Listed.Count (length ts)) (if b then out else ts ++ drop (length ts) out) ≡ (if b then refused listShort else tsnsAre ts)
+    by : (b : Bool) → record { answer = if b then Listed.Refused listShort else Listed.Count (length ts); list = if b then out else ts ++ drop (length ts) out } ≡ listedIn out (if b then refused listShort else tsnsAre ts)
     by true = refl
-    by false = ap tsnsAre (take-front ts (drop (length ts) out))
+    by false = refl
 
 module _ (now : ℕ) (s : Sender) (out : List ℕ) where
   abbrev lists : Bool → Listing
-  lists b = if b then refused beyondLimit else listing (length out) (tsnsOf (expiredEntry now (s .pending)) (s .flight .oldest) (s .flight .entries))
+  lists b = if b then refused beyondLimit else listing (length out) (overdueTsns now (named (numberUnderWay (s .pending))) (s .flight))
 
-  pub list-late : clockMax < now → refused beyondLimit ≡ expiredInflight now (length out) s
-  unfolding expiredInflight
-  list-late h = sym (ap lists (lt-ltb clockMax now h))
+  pub list-late : clockMax < now → record { answer = Listed.Refused beyondLimit; list = out } ≡ listedIn out (leanList now (length out) s)
+  unfolding leanList
+  list-late h = sym (ap (λ (b : Bool). listedIn out (lists b)) (lt-ltb clockMax now h))
 
   -- `w` is what the code names, and `after` what it leaves in the lent list
-  pub list-is : now ≤ clockMax → Good s → (w : Pending) → w ≡ named (numberUnderWay (s .pending)) → {r : Listed} {after : List ℕ} → r ≡ listed (overdueTsns now w (s .flight)) out
-      → after ≡ written (overdueTsns now w (s .flight)) out → listingOf r after ≡ expiredInflight now (length out) s
-  unfolding expiredInflight
-  list-is h g w e q v =
-      ap₂ listingOf q v ∙ listing-is (overdueTsns now w (s .flight)) out
-      ∙ ap (listing (length out)) (ap (λ (y : Pending). overdueTsns now y (s .flight)) e ∙ expired-is now (named (numberUnderWay (s .pending))) (s .pending) (s .flight) (names s g))
-      ∙ sym (ap lists (le-ltb clockMax now h))
+  pub list-is : now ≤ clockMax → (w : Pending) → w ≡ named (numberUnderWay (s .pending)) → {r : Listed} {after : List ℕ} → r ≡ listed (overdueTsns now w (s .flight)) out
+      → after ≡ written (overdueTsns now w (s .flight)) out → record { answer = r; list = after } ≡ listedIn out (leanList now (length out) s)
+  unfolding leanList
+  list-is h w e q v =
+      ap₂ (λ (a : Listed) (l : List ℕ). record { answer = a; list = l }) q v ∙ listing-is (overdueTsns now w (s .flight)) out
+      ∙ ap (λ (y : Pending). listedIn out (listing (length out) (overdueTsns now y (s .flight)))) e
+      ∙ sym (ap (λ (b : Bool). listedIn out (lists b)) (le-ltb clockMax now h))

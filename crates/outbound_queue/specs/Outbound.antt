@@ -1,5 +1,5 @@
 -- What the queue's numbers and the lent cells mean as the model's sender, and what the calls lean on of the states that calls reach.
-use mathlib.Core.Path.{_≡_}
+use mathlib.Core.Path.{_≡_, sym, ap, subst}
 use mathlib.Core.Bool.{false, not}
 use mathlib.Core.Option.{some}
 use mathlib.Core.List.{List, []}
@@ -9,7 +9,7 @@ use Rattle.limits.specs.Limits.{Room}
 use Rattle.model.specs.declared.Chunk.{Chunk}
 use Rattle.model.specs.declared.Lane.{Lane}
 use Rattle.model.specs.Lists.{keep}
-use Rattle.model.specs.State.{Sender, at, isOf}
+use Rattle.model.specs.State.{Sender, Out, at, isOf}
 use Rattle.model.specs.Rings.{head}
 use Rattle.demands.specs.Words.{numberUnderWay}
 use Rattle.demands.specs.States.{Kept, Ascending, Has, dropRun}
@@ -49,3 +49,14 @@ pub record Good (room : Room) (s : Sender) : Type 0 where
 pub kept-good : {room : Room} {s : Sender} → Kept room s → Good room s
 kept-good k =
     record { ordered = k .ordered; headRun = k .headRun; flightRun = k .flightRun; partly = k .partly; headRest = k .headRest; terminatorRoom = k .terminatorRoom }
+
+-- ---- a queue that was made anew
+
+pub same-sender : {q r : OutboundQueue} (u o f : List ℕ) → q ≡ r → senderOf q u o f ≡ senderOf r u o f
+same-sender u o f e = ap (λ (x : OutboundQueue). senderOf x u o f) e
+
+pub remade : {A : Type 0} {says : A} {q r : OutboundQueue} (u o f : List ℕ) → q ≡ r → _≡_ {A = Out A} (record { after = senderOf q u o f; says = says }) (record { after = senderOf r u o f; says = says })
+remade {A} {says} u o f e = ap (λ (x : OutboundQueue). record { after = senderOf x u o f; says = says }) e
+
+pub recounted : {q r : OutboundQueue} (u o f : List ℕ) → q ≡ r → Counted r u o f → Counted q u o f
+recounted u o f e k = subst (λ (x : OutboundQueue). Counted x u o f) (sym e) k

@@ -36,11 +36,11 @@ module _ (now : ℕ) {room : Room} {s : Sender} (g : Good room s) where
   ends-are = ap (λ (p : Pending). seenWith p s) (started-rings now (s .numbers .unstarted) (s .pending) (g .ordered))
 
   pub lean-start : leanStart now s ≡ startLifetimes now s
-  unfolding leanStart, startLifetimes
+  unfolding leanStart startLifetimes
   lean-start = ap (λ (b : Sender). if ltb clockMax now then same (Done.Refused beyondLimit) s else record { after = b; says = Done.Done }) ends-are
 
   pub lean-send : (r : Room) → leanSend r now s ≡ send r now s
-  unfolding leanSend, send
+  unfolding leanSend send
   lean-send r = ap (λ (b : Sender). if ltb clockMax now then same (Sent.Refused beyondLimit) s else sending (headLane (b .pending)) (at (headLane (b .pending)) (b .pending)) r now s b) ends-are
 
 -- ---- lifetimes

@@ -1,7 +1,9 @@
 // What is pending and what is in flight, together: a record by value, and the cells of two rings and of the flight, lent. `senderOf` of
-// specs/ reads the model's sender from them, with no streams, and each contract is an equation with the model's call. Where code does
-// less than the definition, since the states that calls reach are `Good`, the equation stands under that; no call asks anything.
+// specs/ reads the model's sender from them, with no streams, and each contract is an equation with the model's call. Six calls do less
+// than the model's, which in the states that calls reach is the same: these say by `Does` what they do of any state at all (specs/Lean),
+// and that it is the model's where the state is `Good`. No call asks anything of its caller.
 use limits::Moment;
+use model::Abandoned;
 use model::Chunk;
 use model::Done;
 use model::Earliest;
@@ -10,6 +12,7 @@ use model::Found;
 use model::Listed;
 use model::Message;
 use model::Sent;
+use model::TailExpired;
 use payload_queue::PayloadQueue;
 use payload_queue::Pending;
 use pending_queue::PendingQueue;
@@ -20,7 +23,7 @@ ghost use Prim.Native.Nat.{ℕ, suc, _+_, _≤_};
 ghost use lib.ListN.{length};
 ghost use lib.Dec.{leb, eqb};
 ghost use Rattle.model.specs.State.{inFlight, nextTsn};
-ghost use Rattle.model.specs.Rings.{head, bytes, startLifetimes, sentAt, send, expires, expirePending, expiredInflight};
+ghost use Rattle.model.specs.Rings.{head, bytes, startLifetimes, sentAt, send, overdue, expires, expirePending, terminator, abandon, tailExpires, expirePendingTail, expiredInflight};
 ghost use Rattle.model.specs.Flight.{acknowledge, pop, markAll, found, isAbandoned, hasStream, earliestOutstanding};
 ghost use Rattle.limits.specs.Limits.{numberMax};
 ghost use Rattle.model.specs.Messages.{pieces};
@@ -28,9 +31,10 @@ ghost use Rattle.cells.specs.Slots.{roomOf};
 ghost use Rattle.demands.specs.Words.{numberUnderWay};
 ghost use Rattle.payload_queue.specs.Queue.{flightOf};
 ghost use Rattle.pending_queue.specs.Queue.{pendingIn};
-ghost use Rattle.outbound_queue.specs.Outbound.{senderOf, roomIn, Counted, Good};
+ghost use Rattle.outbound_queue.specs.Outbound.{senderOf, roomIn, Counted};
+ghost use Rattle.outbound_queue.specs.Lean.{Does, leanStart, leanSend, leanExpire, leanlyAbandoned, leanlyHeld, leanAbandon, leanExpireTail, named, leanList, listedIn};
 ghost use Rattle.outbound_queue.specs.Asked.{streamIn};
-ghost use Rattle.outbound_queue.specs.Listings.{named, listingOf};
+ghost use Rattle.outbound_queue.specs.Sends.{blocked};
 ghost use Rattle.outbound_queue.specs.Writes.{numberedAs, Pushes};
 
 pub struct OutboundQueue {
@@ -69,6 +73,16 @@ pub struct Sending {
 pub struct Expiring {
     pub queue: OutboundQueue,
     pub answer: Expired,
+}
+
+pub struct Abandoning {
+    pub queue: OutboundQueue,
+    pub answer: Abandoned,
+}
+
+pub struct TailExpiring {
+    pub queue: OutboundQueue,
+    pub answer: TailExpired,
 }
 
 // ---- what is asked
@@ -216,6 +230,18 @@ pub fn mark_all_to_retransmit(q: OutboundQueue, flight: &mut [u64])
 
 // ---- lifetimes, and sending
 
+// The queue with other parts, and every message seen.
+fn seen(q: OutboundQueue, pending: PendingQueue, inflight: PayloadQueue) -> OutboundQueue
+    ensures { λ r. ⌜ r ≡ record { pending = pending; inflight = inflight; «next_message_id» = q .«next_message_id»; «next_unstarted_message_id» = q .«next_message_id» } ⌝ }
+{
+    OutboundQueue {
+        pending: pending,
+        inflight: inflight,
+        next_message_id: q.next_message_id,
+        next_unstarted_message_id: q.next_message_id,
+    }
+}
+
 // Starts the lifetimes of the messages not yet seen. The rings are in the order of the message numbers, so these stand at their ends.
 pub fn start_timed_messages(
     q: OutboundQueue,
@@ -223,7 +249,7 @@ pub fn start_timed_messages(
     ordered: &mut [u64],
     clock: u64,
 ) -> Started
-    ensures { λ r. ⌜ ((f : List ℕ) → (Good (senderOf q (now (unordered .entry)) (now (ordered .entry)) f) → record { after = senderOf (r .queue) (now (unordered .exit)) (now (ordered .exit)) f; says = r .answer } ≡ startLifetimes clock (senderOf q (now (unordered .entry)) (now (ordered .entry)) f)) × (Counted q (now (unordered .entry)) (now (ordered .entry)) f → Counted (r .queue) (now (unordered .exit)) (now (ordered .exit)) f)) ⌝ }
+    ensures { λ r. ⌜ ((f : List ℕ) → Does (roomIn f) (senderOf q (now (unordered .entry)) (now (ordered .entry)) f) (record { after = senderOf (r .queue) (now (unordered .exit)) (now (ordered .exit)) f; says = r .answer }) (leanStart clock (senderOf q (now (unordered .entry)) (now (ordered .entry)) f)) (startLifetimes clock (senderOf q (now (unordered .entry)) (now (ordered .entry)) f)) × (Counted q (now (unordered .entry)) (now (ordered .entry)) f → Counted (r .queue) (now (unordered .exit)) (now (ordered .exit)) f)) ⌝ }
 {
     if limits::CLOCK_MAX < clock {
         return Started {
@@ -231,23 +257,11 @@ pub fn start_timed_messages(
             answer: Done::Refused(limits::BEYOND_LIMIT),
         };
     }
-    let pending = q.pending;
-    let inflight = q.inflight;
-    let next = q.next_message_id;
-    pending_queue::start_timed_messages(
-        pending,
-        unordered,
-        ordered,
-        clock,
-        q.next_unstarted_message_id,
-    );
+    let first = q.next_unstarted_message_id;
+    pending_queue::start_timed_messages(q.pending, unordered, ordered, clock, first);
+    let after = seen(q, q.pending, q.inflight);
     Started {
-        queue: OutboundQueue {
-            pending: pending,
-            inflight: inflight,
-            next_message_id: next,
-            next_unstarted_message_id: next,
-        },
+        queue: after,
         answer: Done::Done,
     }
 }
@@ -278,6 +292,17 @@ fn is_full(inflight: PayloadQueue, flight: &[u64]) -> bool
     cells::room(flight) <= payload_queue::len(inflight, flight) + 1
 }
 
+// Whether there is a chunk to send, and no room for it.
+fn is_blocked(q: OutboundQueue, unordered: &[u64], ordered: &[u64], flight: &[u64]) -> bool
+    ensures { λ r. ⌜ r ≡ blocked (head (senderOf q (now (unordered .entry)) (now (ordered .entry)) (now (flight .entry)) .pending)) (roomIn (now (flight .entry))) (senderOf q (now (unordered .entry)) (now (ordered .entry)) (now (flight .entry))) ⌝ }
+{
+    let front = pending_queue::peek(q.pending, unordered, ordered);
+    let Found::One(_) = front else {
+        return false;
+    };
+    is_full(q.inflight, flight)
+}
+
 // The head goes to the flight, with lifetimes started. What is refused is refused before the first store.
 pub fn send_next(
     q: OutboundQueue,
@@ -286,7 +311,7 @@ pub fn send_next(
     flight: &mut [u64],
     clock: u64,
 ) -> Sending
-    ensures { λ r. ⌜ (Good (senderOf q (now (unordered .entry)) (now (ordered .entry)) (now (flight .entry))) → record { after = senderOf (r .queue) (now (unordered .exit)) (now (ordered .exit)) (now (flight .exit)); says = r .answer } ≡ send (roomIn (now (flight .entry))) clock (senderOf q (now (unordered .entry)) (now (ordered .entry)) (now (flight .entry)))) × (Counted q (now (unordered .entry)) (now (ordered .entry)) (now (flight .entry)) → Counted (r .queue) (now (unordered .exit)) (now (ordered .exit)) (now (flight .exit))) ⌝ }
+    ensures { λ r. ⌜ Does (roomIn (now (flight .entry))) (senderOf q (now (unordered .entry)) (now (ordered .entry)) (now (flight .entry))) (record { after = senderOf (r .queue) (now (unordered .exit)) (now (ordered .exit)) (now (flight .exit)); says = r .answer }) (leanSend (roomIn (now (flight .entry))) clock (senderOf q (now (unordered .entry)) (now (ordered .entry)) (now (flight .entry)))) (send (roomIn (now (flight .entry))) clock (senderOf q (now (unordered .entry)) (now (ordered .entry)) (now (flight .entry)))) × (Counted q (now (unordered .entry)) (now (ordered .entry)) (now (flight .entry)) → Counted (r .queue) (now (unordered .exit)) (now (ordered .exit)) (now (flight .exit))) ⌝ }
 {
     if limits::CLOCK_MAX < clock {
         return Sending {
@@ -294,72 +319,48 @@ pub fn send_next(
             answer: Sent::Refused(limits::BEYOND_LIMIT),
         };
     }
-    let pending = q.pending;
-    let inflight = q.inflight;
-    let next = q.next_message_id;
-    let front = pending_queue::peek(pending, unordered, ordered);
-    let Found::One(_) = front else {
-        pending_queue::start_timed_messages(
-            pending,
-            unordered,
-            ordered,
-            clock,
-            q.next_unstarted_message_id,
-        );
-        return Sending {
-            queue: OutboundQueue {
-                pending: pending,
-                inflight: inflight,
-                next_message_id: next,
-                next_unstarted_message_id: next,
-            },
-            answer: Sent::Nothing,
-        };
-    };
-    if is_full(inflight, flight) {
+    if is_blocked(q, unordered, ordered, flight) {
         return Sending {
             queue: q,
             answer: Sent::Refused(limits::FLIGHT_FULL),
         };
     }
-    let tsn = payload_queue::next_tsn(inflight, flight);
-    pending_queue::start_timed_messages(
-        pending,
-        unordered,
-        ordered,
-        clock,
-        q.next_unstarted_message_id,
-    );
-    let taken = pending_queue::pop(pending, unordered, ordered);
-    let rest = taken.queue;
-    let first = taken.front;
-    let Found::One(chunk) = first else {
+    let tsn = payload_queue::next_tsn(q.inflight, flight);
+    let first = q.next_unstarted_message_id;
+    pending_queue::start_timed_messages(q.pending, unordered, ordered, clock, first);
+    let taken = pending_queue::pop(q.pending, unordered, ordered);
+    let front = taken.front;
+    let Found::One(chunk) = front else {
+        let after = seen(q, taken.queue, q.inflight);
         return Sending {
-            queue: OutboundQueue {
-                pending: rest,
-                inflight: inflight,
-                next_message_id: next,
-                next_unstarted_message_id: next,
-            },
+            queue: after,
             answer: Sent::Nothing,
         };
     };
     let sent = stamp(chunk, clock);
-    let longer = payload_queue::push(inflight, flight, sent);
+    let longer = payload_queue::push(q.inflight, flight, sent);
+    let after = seen(q, taken.queue, longer);
     Sending {
-        queue: OutboundQueue {
-            pending: rest,
-            inflight: longer,
-            next_message_id: next,
-            next_unstarted_message_id: next,
-        },
+        queue: after,
         answer: Sent::Yielded(tsn, sent),
     }
 }
 
-// ---- expiry
+// ---- expiry, and abandonment
 
-// A first fragment that is not empty, not of type 50, and at or past its deadline.
+// Not of type 50, and at or past its deadline.
+fn is_overdue(chunk: Chunk, clock: u64) -> bool
+    ensures { λ r. ⌜ r ≡ overdue clock chunk ⌝ }
+{
+    let message = chunk.message;
+    if message.protocol == 50 {
+        return false;
+    }
+    let deadline = message.deadline;
+    deadline.reached(clock)
+}
+
+// A first fragment that is not empty and is overdue.
 fn is_expired(chunk: Chunk, clock: u64) -> bool
     ensures { λ r. ⌜ r ≡ expires clock chunk ⌝ }
 {
@@ -369,12 +370,19 @@ fn is_expired(chunk: Chunk, clock: u64) -> bool
     if chunk.length < 1 {
         return false;
     }
-    let message = chunk.message;
-    if message.protocol == 50 {
-        return false;
+    is_overdue(chunk, clock)
+}
+
+// The queue with other parts.
+fn with_parts(q: OutboundQueue, pending: PendingQueue, inflight: PayloadQueue) -> OutboundQueue
+    ensures { λ r. ⌜ r ≡ record { pending = pending; inflight = inflight; «next_message_id» = q .«next_message_id»; «next_unstarted_message_id» = q .«next_unstarted_message_id» } ⌝ }
+{
+    OutboundQueue {
+        pending: pending,
+        inflight: inflight,
+        next_message_id: q.next_message_id,
+        next_unstarted_message_id: q.next_unstarted_message_id,
     }
-    let deadline = message.deadline;
-    deadline.reached(clock)
 }
 
 // A wholly unsent message at the head goes, and takes no TSN; behind an ordered one the SSNs of its stream close the gap.
@@ -384,7 +392,7 @@ pub fn expire_pending(
     ordered: &mut [u64],
     clock: u64,
 ) -> Expiring
-    ensures { λ r. ⌜ ((f : List ℕ) → (Good (senderOf q (now (unordered .entry)) (now (ordered .entry)) f) → record { after = senderOf (r .queue) (now (unordered .entry)) (now (ordered .exit)) f; says = r .answer } ≡ expirePending clock (senderOf q (now (unordered .entry)) (now (ordered .entry)) f)) × (Counted q (now (unordered .entry)) (now (ordered .entry)) f → Counted (r .queue) (now (unordered .entry)) (now (ordered .exit)) f)) ⌝ }
+    ensures { λ r. ⌜ ((f : List ℕ) → Does (roomIn f) (senderOf q (now (unordered .entry)) (now (ordered .entry)) f) (record { after = senderOf (r .queue) (now (unordered .entry)) (now (ordered .exit)) f; says = r .answer }) (leanExpire clock (senderOf q (now (unordered .entry)) (now (ordered .entry)) f)) (expirePending clock (senderOf q (now (unordered .entry)) (now (ordered .entry)) f)) × (Counted q (now (unordered .entry)) (now (ordered .entry)) f → Counted (r .queue) (now (unordered .entry)) (now (ordered .exit)) f)) ⌝ }
 {
     if limits::CLOCK_MAX < clock {
         return Expiring {
@@ -392,9 +400,7 @@ pub fn expire_pending(
             answer: Expired::Refused(limits::BEYOND_LIMIT),
         };
     }
-    let pending = q.pending;
-    let inflight = q.inflight;
-    let front = pending_queue::peek(pending, unordered, ordered);
+    let front = pending_queue::peek(q.pending, unordered, ordered);
     let Found::One(chunk) = front else {
         return Expiring {
             queue: q,
@@ -408,14 +414,8 @@ pub fn expire_pending(
         };
     }
     let message = chunk.message;
-    let removed = pending_queue::remove_message(pending, unordered, ordered, message.number);
-    let rest = removed.queue;
-    let after = OutboundQueue {
-        pending: rest,
-        inflight: inflight,
-        next_message_id: q.next_message_id,
-        next_unstarted_message_id: q.next_unstarted_message_id,
-    };
+    let removed = pending_queue::remove_message(q.pending, unordered, ordered, message.number);
+    let after = with_parts(q, removed.queue, q.inflight);
     let answer = Expired::Message {
         stream: message.stream,
         unordered: message.unordered,
@@ -427,10 +427,153 @@ pub fn expire_pending(
             answer: answer,
         };
     }
-    pending_queue::compact_ordered_ssns(rest, ordered, message.stream);
+    pending_queue::compact_ordered_ssns(removed.queue, ordered, message.stream);
     Expiring {
         queue: after,
         answer: answer,
+    }
+}
+
+// What ends a message in flight whose last fragments are not sent: it holds nothing.
+fn terminate(chunk: Chunk) -> Chunk
+    ensures { λ r. ⌜ r ≡ terminator chunk ⌝ }
+{
+    let message = chunk.message;
+    Chunk {
+        message: message,
+        beginning: false,
+        ending: true,
+        offset: chunk.offset,
+        length: 0,
+        since: Moment::Absent,
+        nsent: 0,
+        acked: chunk.acked,
+        abandoned: true,
+        retransmit: false,
+    }
+}
+
+struct GivenUp {
+    queue: OutboundQueue,
+    bytes: u64,
+}
+
+// A message is given up in flight, and what is pending of it goes; a terminator stands for that. The bytes are all that it held.
+fn give_up(
+    q: OutboundQueue,
+    unordered: &[u64],
+    ordered: &[u64],
+    flight: &mut [u64],
+    number: u64,
+) -> GivenUp
+    ensures { λ r. ⌜ (senderOf (r .queue) (now (unordered .entry)) (now (ordered .entry)) (now (flight .exit)) ≡ leanlyAbandoned (roomIn (now (flight .entry))) number (senderOf q (now (unordered .entry)) (now (ordered .entry)) (now (flight .entry)))) × (r .bytes ≡ leanlyHeld number (senderOf q (now (unordered .entry)) (now (ordered .entry)) (now (flight .entry)))) × (Counted q (now (unordered .entry)) (now (ordered .entry)) (now (flight .entry)) → Counted (r .queue) (now (unordered .entry)) (now (ordered .entry)) (now (flight .exit))) ⌝ }
+{
+    let freed = payload_queue::abandon_message(q.inflight, flight, number);
+    let removed = pending_queue::remove_message(q.pending, unordered, ordered, number);
+    let bytes = freed.bytes + removed.bytes;
+    let last = removed.last;
+    let Found::One(chunk) = last else {
+        let after = with_parts(q, removed.queue, freed.queue);
+        return GivenUp {
+            queue: after,
+            bytes: bytes,
+        };
+    };
+    let longer = payload_queue::push(freed.queue, flight, terminate(chunk));
+    let after = with_parts(q, removed.queue, longer);
+    GivenUp {
+        queue: after,
+        bytes: bytes,
+    }
+}
+
+// Gives up the message of a TSN in flight, whatever its reliability.
+pub fn abandon(
+    q: OutboundQueue,
+    unordered: &[u64],
+    ordered: &[u64],
+    flight: &mut [u64],
+    tsn: u32,
+) -> Abandoning
+    ensures { λ r. ⌜ Does (roomIn (now (flight .entry))) (senderOf q (now (unordered .entry)) (now (ordered .entry)) (now (flight .entry))) (record { after = senderOf (r .queue) (now (unordered .entry)) (now (ordered .entry)) (now (flight .exit)); says = r .answer }) (leanAbandon (roomIn (now (flight .entry))) tsn (senderOf q (now (unordered .entry)) (now (ordered .entry)) (now (flight .entry)))) (abandon tsn (senderOf q (now (unordered .entry)) (now (ordered .entry)) (now (flight .entry)))) × (Counted q (now (unordered .entry)) (now (ordered .entry)) (now (flight .entry)) → Counted (r .queue) (now (unordered .entry)) (now (ordered .entry)) (now (flight .exit))) ⌝ }
+{
+    let entry = payload_queue::get(q.inflight, flight, tsn);
+    let Found::One(chunk) = entry else {
+        return Abandoning {
+            queue: q,
+            answer: Abandoned::Nothing,
+        };
+    };
+    let message = chunk.message;
+    if chunk.abandoned {
+        return Abandoning {
+            queue: q,
+            answer: Abandoned::Message {
+                stream: message.stream,
+                bytes: 0,
+            },
+        };
+    }
+    let given = give_up(q, unordered, ordered, flight, message.number);
+    let after = given.queue;
+    Abandoning {
+        queue: after,
+        answer: Abandoned::Message {
+            stream: message.stream,
+            bytes: given.bytes,
+        },
+    }
+}
+
+// No first fragment, and overdue.
+fn tail_is_expired(chunk: Chunk, clock: u64) -> bool
+    ensures { λ r. ⌜ r ≡ tailExpires clock chunk ⌝ }
+{
+    if chunk.beginning {
+        return false;
+    }
+    is_overdue(chunk, clock)
+}
+
+// Gives up the message under way, if its rest has expired.
+pub fn expire_pending_tail(
+    q: OutboundQueue,
+    unordered: &[u64],
+    ordered: &[u64],
+    flight: &mut [u64],
+    clock: u64,
+) -> TailExpiring
+    ensures { λ r. ⌜ Does (roomIn (now (flight .entry))) (senderOf q (now (unordered .entry)) (now (ordered .entry)) (now (flight .entry))) (record { after = senderOf (r .queue) (now (unordered .entry)) (now (ordered .entry)) (now (flight .exit)); says = r .answer }) (leanExpireTail (roomIn (now (flight .entry))) clock (senderOf q (now (unordered .entry)) (now (ordered .entry)) (now (flight .entry)))) (expirePendingTail clock (senderOf q (now (unordered .entry)) (now (ordered .entry)) (now (flight .entry)))) × (Counted q (now (unordered .entry)) (now (ordered .entry)) (now (flight .entry)) → Counted (r .queue) (now (unordered .entry)) (now (ordered .entry)) (now (flight .exit))) ⌝ }
+{
+    if limits::CLOCK_MAX < clock {
+        return TailExpiring {
+            queue: q,
+            answer: TailExpired::Refused(limits::BEYOND_LIMIT),
+        };
+    }
+    let front = pending_queue::peek(q.pending, unordered, ordered);
+    let Found::One(chunk) = front else {
+        return TailExpiring {
+            queue: q,
+            answer: TailExpired::Nothing,
+        };
+    };
+    if !tail_is_expired(chunk, clock) {
+        return TailExpiring {
+            queue: q,
+            answer: TailExpired::Nothing,
+        };
+    }
+    let message = chunk.message;
+    let given = give_up(q, unordered, ordered, flight, message.number);
+    let after = given.queue;
+    TailExpiring {
+        queue: after,
+        answer: TailExpired::Message {
+            stream: message.stream,
+            number: message.number,
+            bytes: given.bytes,
+        },
     }
 }
 
@@ -449,7 +592,7 @@ fn under_way(pending: PendingQueue, unordered: &[u64], ordered: &[u64]) -> Pendi
     Pending::Message(message.number)
 }
 
-// The TSNs in flight whose message has expired, oldest first, in the front of the lent list.
+// The TSNs in flight whose message has expired, oldest first, in the front of the lent list; the rest of that stays.
 pub fn expired_inflight(
     q: OutboundQueue,
     unordered: &[u64],
@@ -458,7 +601,7 @@ pub fn expired_inflight(
     clock: u64,
     out: &mut [u32],
 ) -> Listed
-    ensures { λ r. ⌜ (Good (senderOf q (now (unordered .entry)) (now (ordered .entry)) (now (flight .entry))) → listingOf r (now (out .exit)) ≡ expiredInflight clock (length (now (out .entry))) (senderOf q (now (unordered .entry)) (now (ordered .entry)) (now (flight .entry)))) ⌝ }
+    ensures { λ r. ⌜ Does (roomIn (now (flight .entry))) (senderOf q (now (unordered .entry)) (now (ordered .entry)) (now (flight .entry))) (record { answer = r; list = now (out .exit) }) (listedIn (now (out .entry)) (leanList clock (length (now (out .entry))) (senderOf q (now (unordered .entry)) (now (ordered .entry)) (now (flight .entry))))) (listedIn (now (out .entry)) (expiredInflight clock (length (now (out .entry))) (senderOf q (now (unordered .entry)) (now (ordered .entry)) (now (flight .entry))))) ⌝ }
 {
     if limits::CLOCK_MAX < clock {
         return Listed::Refused(limits::BEYOND_LIMIT);
