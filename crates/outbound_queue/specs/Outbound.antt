@@ -1,5 +1,5 @@
 -- What the queue's numbers and the lent cells mean as the model's sender, and what the calls lean on of the states that calls reach.
-use mathlib.Core.Path.{_≡_, sym, ap, subst}
+use mathlib.Core.Path.{_≡_, sym, ap, subst, _∙_}
 use mathlib.Core.Bool.{false, not}
 use mathlib.Core.Option.{some}
 use mathlib.Core.List.{List, []}
@@ -49,6 +49,15 @@ pub record Good (room : Room) (s : Sender) : Type 0 where
 pub kept-good : {room : Room} {s : Sender} → Kept room s → Good room s
 kept-good k =
     record { ordered = k .ordered; headRun = k .headRun; flightRun = k .flightRun; partly = k .partly; headRest = k .headRest; terminatorRoom = k .terminatorRoom }
+
+-- ---- calls that do less than 01 says, which in a Good state is the same
+
+-- what such a call promises: of any state what the code does, and of those that calls reach what 01 says
+abbrev pub Does : {A : Type 0} → Room → Sender → (got lean said : A) → Type 0
+Does room s got lean said = (got ≡ lean) × (Good room s → got ≡ said)
+
+pub does : {A : Type 0} {room : Room} {s : Sender} {got lean said : A} → (Good room s → lean ≡ said) → got ≡ lean → Does room s got lean said
+does h e = (e, λ g. e ∙ h g)
 
 -- ---- a queue that was made anew
 
