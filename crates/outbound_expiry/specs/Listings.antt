@@ -24,7 +24,7 @@ use Rattle.model.specs.Rings.{Listing, tsnsAre, refused, listing, expiredInflig
 use Rattle.model.specs.Flight.{found}
 use Rattle.demands.specs.Words.{numberUnderWay, numberOfHead}
 use Rattle.demands.specs.States.{Has}
-use Rattle.cells.specs.Chunks.{blankChunk}
+use Rattle.chunk_slot.specs.Chunks.{blankChunk}
 use Rattle.payload_queue.specs.declared.Pending.{Pending}
 use Rattle.payload_queue.specs.Queue.{isAwaited, overdueTsns, listed, written}
 use Rattle.payload_queue.specs.Model.{Names, expired-is}

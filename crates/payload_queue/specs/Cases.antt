@@ -16,7 +16,7 @@ use Rattle.model.specs.Rings.{bytes}
 use Rattle.model.specs.Flight.{found, acknowledged}
 use Rattle.rows.specs.Adjusts.{adjust-set}
 use Rattle.rows.specs.Turns.{nil-of}
-use Rattle.cells.specs.Chunks.{blankChunk}
+use Rattle.chunk_slot.specs.Chunks.{blankChunk}
 use Rattle.ring.specs.declared.Ring.{Ring}
 use Rattle.ring.specs.Held.{held, length-held}
 use Rattle.payload_queue.specs.declared.Pending.{Pending}

@@ -15,7 +15,7 @@ use Rattle.model.specs.Lists.{if_then_else_, some-of, adjust}
 use Rattle.model.specs.State.{Sender, Flight, Out, Pending as Waiting, withEntries, place, inFlight, isOf}
 use Rattle.model.specs.Rings.{tsnsOf, expiredEntry}
 use Rattle.model.specs.Flight.{acknowledged, acknowledging, popping}
-use Rattle.cells.specs.Chunks.{blankChunk}
+use Rattle.chunk_slot.specs.Chunks.{blankChunk}
 use Rattle.payload_queue.specs.declared.Pending.{Pending}
 use Rattle.payload_queue.specs.Queue.{acked, heldIn, Pop, poppedOf, isAwaited, overdueEntry, overdueTsns}
 

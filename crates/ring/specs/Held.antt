@@ -15,7 +15,7 @@ use Rattle.model.specs.Lists.{if_then_else_, first, adjust}
 use Rattle.model.specs.Flight.{found}
 use Rattle.rows.specs.Rounds.{cellOf, round, round-length, round-get, round-set, round-adjust, round-push, round-pop}
 use Rattle.cells.specs.Slots.{roomOf, limit, length-slots}
-use Rattle.cells.specs.Chunks.{chunkIn, chunks, blankChunk}
+use Rattle.chunk_slot.specs.Chunks.{chunkIn, chunks, blankChunk}
 use Rattle.ring.specs.declared.Ring.{Ring}
 
 -- the chunks in order: `len` of the slots (all, where that is more), from slot `start` on (modulo their number), and round

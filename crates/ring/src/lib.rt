@@ -13,8 +13,8 @@ ghost use Rattle.model.specs.Lists.{first, adjust};
 ghost use Rattle.model.specs.Rings.{givenUp, lowered, started};
 ghost use Rattle.model.specs.Flight.{found, toRetransmit};
 ghost use Rattle.cells.specs.Slots.{roomOf};
-ghost use Rattle.cells.specs.Chunks.{blankChunk};
-ghost use Rattle.cells.specs.Changes.{heldOf};
+ghost use Rattle.chunk_slot.specs.Chunks.{blankChunk};
+ghost use Rattle.chunk_parts.specs.Changes.{heldOf};
 ghost use Rattle.ring.specs.Held.{slotOf, held, pushed};
 
 pub struct Ring {
@@ -77,7 +77,7 @@ pub fn nth(ring: Ring, cells: &[u64], i: usize) -> Chunk
     ensures { λ r. ⌜ r ≡ getD (held ring (now (cells .entry))) i blankChunk ⌝ }
 {
     let at = slot(ring, cells, i);
-    cells::chunk::load(cells, at)
+    chunk_slot::load(cells, at)
 }
 
 // The i-th chunk is replaced, where there is one.
@@ -85,7 +85,7 @@ pub fn put(ring: Ring, cells: &mut [u64], i: usize, chunk: Chunk)
     ensures { λ _. ⌜ held ring (now (cells .exit)) ≡ set (held ring (now (cells .entry))) i chunk ⌝ }
 {
     let at = slot(ring, cells, i);
-    cells::chunk::store(cells, at, chunk);
+    chunk_slot::store(cells, at, chunk);
 }
 
 // One more at the end, where there is room.
@@ -163,7 +163,7 @@ pub fn nth_number(ring: Ring, cells: &[u64], i: usize) -> u64
     ensures { λ r. ⌜ r ≡ getD (held ring (now (cells .entry))) i blankChunk .message .number ⌝ }
 {
     let at = slot(ring, cells, i);
-    cells::chunk::number_at(cells, at)
+    chunk_parts::number_at(cells, at)
 }
 
 // The bytes that the i-th holds, and 0 past the end.
@@ -171,7 +171,7 @@ pub fn nth_length(ring: Ring, cells: &[u64], i: usize) -> u32
     ensures { λ r. ⌜ r ≡ getD (held ring (now (cells .entry))) i blankChunk .length ⌝ }
 {
     let at = slot(ring, cells, i);
-    cells::chunk::length_at(cells, at)
+    chunk_parts::length_at(cells, at)
 }
 
 // The stream of the i-th, and 0 past the end.
@@ -179,7 +179,7 @@ pub fn nth_stream(ring: Ring, cells: &[u64], i: usize) -> u16
     ensures { λ r. ⌜ r ≡ getD (held ring (now (cells .entry))) i blankChunk .message .stream ⌝ }
 {
     let at = slot(ring, cells, i);
-    cells::chunk::stream_at(cells, at)
+    chunk_parts::stream_at(cells, at)
 }
 
 // The i-th is to be retransmitted, if it is neither acknowledged nor abandoned.
@@ -187,7 +187,7 @@ pub fn mark_nth(ring: Ring, cells: &mut [u64], i: usize)
     ensures { λ _. ⌜ held ring (now (cells .exit)) ≡ adjust toRetransmit i (held ring (now (cells .entry))) ⌝ }
 {
     let at = slot(ring, cells, i);
-    cells::chunk::mark_at(cells, at);
+    chunk_parts::mark_at(cells, at);
 }
 
 // The i-th is given up, if it is of the message; the answer is the bytes that it held of it.
@@ -195,7 +195,7 @@ pub fn give_up_nth(ring: Ring, cells: &mut [u64], i: usize, number: u64) -> u32
     ensures { λ r. ⌜ (r ≡ heldOf number (getD (held ring (now (cells .entry))) i blankChunk)) × (held ring (now (cells .exit)) ≡ adjust (givenUp number) i (held ring (now (cells .entry)))) ⌝ }
 {
     let at = slot(ring, cells, i);
-    cells::chunk::give_up_at(cells, at, number)
+    chunk_parts::give_up_at(cells, at, number)
 }
 
 // The SSN of the i-th drops by 1 modulo 2^16, if it is of the stream.
@@ -203,7 +203,7 @@ pub fn lower_nth(ring: Ring, cells: &mut [u64], i: usize, stream: u16)
     ensures { λ _. ⌜ held ring (now (cells .exit)) ≡ adjust (lowered stream) i (held ring (now (cells .entry))) ⌝ }
 {
     let at = slot(ring, cells, i);
-    cells::chunk::lower_at(cells, at, stream);
+    chunk_parts::lower_at(cells, at, stream);
 }
 
 // The lifetime of the i-th starts, if its message has one and is not yet seen. A clock beyond its limit is taken as the limit.
@@ -211,5 +211,5 @@ pub fn start_nth(ring: Ring, cells: &mut [u64], i: usize, clock: u64, unstarted:
     ensures { λ _. ⌜ held ring (now (cells .exit)) ≡ adjust (started (min clock clockMax) unstarted) i (held ring (now (cells .entry))) ⌝ }
 {
     let at = slot(ring, cells, i);
-    cells::chunk::start_at(cells, at, clock, unstarted);
+    chunk_parts::start_at(cells, at, clock, unstarted);
 }

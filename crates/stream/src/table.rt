@@ -34,7 +34,7 @@ pub fn find(count: usize, cells: &[u64], identifier: u16) -> Place
     let n = len(count, cells);
     let mut i = 0;
     while i < n {
-        let stream = cells::stream::load(cells, i);
+        let stream = stream_slot::load(cells, i);
         if stream.identifier == identifier {
             return Place::At(i, stream);
         }
@@ -54,7 +54,7 @@ pub fn open(count: usize, cells: &mut [u64], stream: Stream) -> Opened
         };
     }
     let more = count + 1;
-    cells::stream::store(cells, count, stream);
+    stream_slot::store(cells, count, stream);
     Opened {
         count: more,
         done: true,
@@ -68,5 +68,5 @@ pub fn update(count: usize, cells: &mut [u64], place: usize, stream: Stream)
     if count <= place {
         return;
     }
-    cells::stream::store(cells, place, stream);
+    stream_slot::store(cells, place, stream);
 }

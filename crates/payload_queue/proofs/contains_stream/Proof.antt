@@ -8,7 +8,7 @@ use borrow.Author.Tests.{eq-eqb, ne-eqb}
 use Rattle.model.specs.Flight.{hasStream}
 use Rattle.rows.specs.Turns.{read-turn, rest-none}
 use Rattle.rows.specs.Walks.{some-hit, some-miss}
-use Rattle.cells.specs.Chunks.{blankChunk}
+use Rattle.chunk_slot.specs.Chunks.{blankChunk}
 use Rattle.ring.specs.Held.{held}
 use borrow.Author.Needs.{needs}
 use Rattle.payload_queue.proofs.contains_stream.Statement.{statement}

@@ -8,7 +8,7 @@ use lib.ListN.{drop}
 use Rattle.model.specs.Lists.{if_then_else_}
 use Rattle.rows.specs.Turns.{read-turn, rest-none}
 use Rattle.rows.specs.Walks.{count}
-use Rattle.cells.specs.Chunks.{blankChunk}
+use Rattle.chunk_slot.specs.Chunks.{blankChunk}
 use Rattle.ring.specs.Held.{held}
 use Rattle.payload_queue.specs.Queue.{overdueEntry}
 use borrow.Author.Needs.{needs}

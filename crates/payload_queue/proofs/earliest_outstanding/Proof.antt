@@ -9,7 +9,7 @@ use Rattle.model.specs.declared.Chunk.{Chunk}
 use Rattle.model.specs.Rings.{tsnsOf}
 use Rattle.model.specs.Flight.{outstanding, earliest}
 use Rattle.rows.specs.Turns.{read-turn, rest-none}
-use Rattle.cells.specs.Chunks.{blankChunk}
+use Rattle.chunk_slot.specs.Chunks.{blankChunk}
 use Rattle.ring.specs.Held.{held}
 use Rattle.payload_queue.specs.Listing.{tsns-hit, tsns-miss}
 use borrow.Author.Needs.{needs}

@@ -8,7 +8,7 @@ use Rattle.model.specs.declared.Listed.{Listed}
 use Rattle.model.specs.Rings.{tsnsOf}
 use Rattle.rows.specs.Turns.{read-turn, rest-none}
 use Rattle.rows.specs.Fills.{Filled, fill-start, fill-length, fill-all, fill-done, fill-as, fill-met}
-use Rattle.cells.specs.Chunks.{blankChunk}
+use Rattle.chunk_slot.specs.Chunks.{blankChunk}
 use Rattle.ring.specs.Held.{held}
 use Rattle.payload_queue.specs.Queue.{flightOf, overdueEntry, overdueTsns}
 use Rattle.payload_queue.specs.Listing.{length-tsns, no-room, fits, fill-room, fill-step}

@@ -10,8 +10,8 @@ use Rattle.model.specs.State.{isOf}
 use Rattle.model.specs.Rings.{givenUp}
 use Rattle.rows.specs.Turns.{Mapped, map-read, map-turn, map-done, rest-none}
 use Rattle.rows.specs.Walks.{keep-total}
-use Rattle.cells.specs.Chunks.{blankChunk}
-use Rattle.cells.specs.Changes.{heldOf}
+use Rattle.chunk_slot.specs.Chunks.{blankChunk}
+use Rattle.chunk_parts.specs.Changes.{heldOf}
 use Rattle.ring.specs.Held.{held, held-limit}
 use borrow.Author.Needs.{needs}
 use Rattle.payload_queue.proofs.give_up_all.Statement.{statement}

@@ -7,7 +7,7 @@ use lib.ListN.{getD}
 use Rattle.model.specs.declared.Chunk.{Chunk}
 use Rattle.model.specs.State.{place}
 use Rattle.model.specs.Rings.{bytes}
-use Rattle.cells.specs.Chunks.{blankChunk}
+use Rattle.chunk_slot.specs.Chunks.{blankChunk}
 use Rattle.ring.specs.Held.{held}
 use Rattle.payload_queue.specs.Queue.{flightOf}
 use Rattle.payload_queue.specs.Sums.{bytes-acked, counted-less}

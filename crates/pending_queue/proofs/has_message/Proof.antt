@@ -9,7 +9,7 @@ use Rattle.model.specs.Lists.{some-of}
 use Rattle.model.specs.State.{isOf}
 use Rattle.rows.specs.Turns.{read-turn, rest-none}
 use Rattle.rows.specs.Walks.{some-hit, some-miss}
-use Rattle.cells.specs.Chunks.{blankChunk}
+use Rattle.chunk_slot.specs.Chunks.{blankChunk}
 use Rattle.ring.specs.Held.{held}
 use borrow.Author.Needs.{needs}
 use Rattle.pending_queue.proofs.has_message.Statement.{statement}

@@ -8,7 +8,7 @@ use borrow.Author.Tests.{eq-eqb, ne-eqb}
 use Rattle.model.specs.State.{isOf}
 use Rattle.rows.specs.Turns.{nil-of, read-turn}
 use Rattle.cells.specs.Slots.{limit}
-use Rattle.cells.specs.Chunks.{blankChunk}
+use Rattle.chunk_slot.specs.Chunks.{blankChunk}
 use Rattle.ring.specs.Held.{held, held-limit}
 use Rattle.pending_queue.specs.Runs.{drop-run, Taking, taking-start, taking-turn, taking-stop, taking-none}
 use borrow.Author.Needs.{needs}

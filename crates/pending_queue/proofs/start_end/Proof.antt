@@ -9,7 +9,7 @@ use borrow.Author.Tests.{le-leb, lt-leb}
 use Rattle.limits.specs.Limits.{clockMax}
 use Rattle.model.specs.Rings.{started}
 use Rattle.rows.specs.Ends.{Done, end-start, end-turn, end-stop, end-zero}
-use Rattle.cells.specs.Chunks.{blankChunk}
+use Rattle.chunk_slot.specs.Chunks.{blankChunk}
 use Rattle.ring.specs.Held.{held}
 use Rattle.pending_queue.specs.Lifetimes.{unseen}
 use borrow.Author.Needs.{needs}

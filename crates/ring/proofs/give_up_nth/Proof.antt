@@ -2,7 +2,7 @@
 use mathlib.Core.Path.{_∙_, ap}
 use denote.Ref.{now}
 use Rattle.model.specs.Rings.{givenUp}
-use Rattle.cells.specs.Changes.{heldOf}
+use Rattle.chunk_parts.specs.Changes.{heldOf}
 use Rattle.ring.specs.Held.{held-get, held-adjust}
 use borrow.Author.Needs.{needs}
 use Rattle.ring.proofs.give_up_nth.Statement.{statement}

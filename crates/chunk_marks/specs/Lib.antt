@@ -1,0 +1,3 @@
+-- Marks: the word of the small fields. Remarks: that word when some of them change.
+pub mod Marks
+pub mod Remarks
