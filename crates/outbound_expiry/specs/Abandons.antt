@@ -18,11 +18,12 @@ use Rattle.model.specs.declared.Lane.{Lane}
 use Rattle.model.specs.declared.Lane.the-variants.{Unordered, Ordered}
 use Rattle.model.specs.declared.TailExpired.{TailExpired}
 use Rattle.model.specs.Lists.{if_then_else_, keep, last}
-use Rattle.model.specs.State.{Sender, Pending, Flight, Out, same, at, place, inFlight, isOf}
+use Rattle.model.specs.State.{Sender, Pending, Flight, Out, same, at, place, inFlight, isOf, withPending}
 use Rattle.model.specs.Rings.{head, bytes, pendingOf, without, givenUp, terminator, terminators, abandoned, heldBy, abandoning, abandon, tailExpires, tailExpiring, expirePendingTail}
 use Rattle.model.specs.Flight.{found}
 use Rattle.demands.specs.States.{Has, dropRun}
 use Rattle.payload_queue.specs.Queue.{changed, filed}
+use Rattle.payload_queue.specs.Model.{withFlight}
 use Rattle.pending_queue.specs.Runs.{runs, withoutRuns, runs-without, runs-pending}
 use Rattle.outbound_queue.specs.Outbound.{Good}
 use Rattle.outbound_expiry.specs.Lean.{closedBy, leanlyAbandoned, leanlyHeld, leanlyAbandoning, leanAbandon, leanlyTailExpiring, leanExpireTail}
@@ -116,27 +117,40 @@ module _ {room : Room} {s : Sender} (g : Good room s) where
           at-flag true q = rw q refl
           at-flag false q = ap (λ (r : Out TailExpired). if tailExpires now c then r else same TailExpired.Nothing s) (goes c e q)
 
--- ---- what the code gives up: `p` is pending then, `g` the flight with the message's entries marked, `f` the flight behind
--- the terminator, and `k` its room, which marking left
+-- ---- what the code gives up: from `s` to `x` the message's entries are marked, from `x` to `y` its pending chunks go, and from `y` to `z` a
+-- terminator is filed, at the room `k`
 
-module _ (room : Room) (n : ℕ) (s : Sender) {p : Pending} {g : Flight} (v : p ≡ withoutRuns n (s .pending)) (w : g ≡ changed (map (givenUp n)) (s .flight)) where
-  gives : {f : Flight} → f ≡ closedBy (room .flight) (last (runs n (s .pending))) g → record { streams = s .streams; pending = p; flight = f; numbers = s .numbers } ≡ leanlyAbandoned room n s
+module _ (room : Room) (n : ℕ) (s : Sender) {x y : Sender} (v : x ≡ withFlight (changed (map (givenUp n)) (s .flight)) s) (w : y ≡ withPending (withoutRuns n (x .pending)) x) where
+  abbrev marked : Flight
+  marked = changed (map (givenUp n)) (s .flight)
+
+  -- the sender then, of which this is the flight
+  abbrev left : Flight → Sender
+  left f = record { streams = s .streams; pending = withoutRuns n (s .pending); flight = f; numbers = s .numbers }
+
+  removed : y ≡ left marked
+  removed = w ∙ ap (λ (o : Sender). withPending (withoutRuns n (o .pending)) o) v
+
+  runs-same : last (runs n (x .pending)) ≡ last (runs n (s .pending))
+  runs-same = ap (λ (o : Sender). last (runs n (o .pending))) v
+
+  gives : {z : Sender} (o : Option Chunk) → last (runs n (x .pending)) ≡ o → z ≡ left (closedBy (room .flight) o marked) → z ≡ leanlyAbandoned room n s
   unfolding leanlyAbandoned
-  gives e =
-      ap₂ (λ (y : Pending) (z : Flight). record { streams = s .streams; pending = y; flight = z; numbers = s .numbers }) v
-      (e ∙ ap (closedBy (room .flight) (last (runs n (s .pending)))) w)
+  gives o q e = e ∙ ap (λ (p : Option Chunk). left (closedBy (room .flight) p marked)) (sym q ∙ runs-same)
 
-  pub gives-none : found (last (runs n (s .pending))) ≡ Found.Nothing → record { streams = s .streams; pending = p; flight = g; numbers = s .numbers } ≡ leanlyAbandoned room n s
-  gives-none e = gives (sym (ap (λ (o : Option Chunk). closedBy (room .flight) o g) (found-none (last (runs n (s .pending))) e)))
+  pub gives-none : found (last (runs n (x .pending))) ≡ Found.Nothing → y ≡ leanlyAbandoned room n s
+  gives-none q = gives none (found-none (last (runs n (x .pending))) q) removed
 
-  pub gives-one : (c : Chunk) → found (last (runs n (s .pending))) ≡ Found.One c → {x : Chunk} {f : Flight} {k : ℕ} → x ≡ terminator c → k ≡ room .flight → f ≡ filed k x g
-      → record { streams = s .streams; pending = p; flight = f; numbers = s .numbers } ≡ leanlyAbandoned room n s
-  gives-one c e q h k =
-      gives (k ∙ ap₂ (λ (i : ℕ) (y : Chunk). filed i y g) h q ∙ sym (ap (λ (o : Option Chunk). closedBy (room .flight) o g) (found-some (last (runs n (s .pending))) c e)))
+  pub gives-one : (c : Chunk) → found (last (runs n (x .pending))) ≡ Found.One c → {d : Chunk} {k : ℕ} {z : Sender} → d ≡ terminator c → k ≡ room .flight → z ≡ withFlight (filed k d (y .flight)) y
+      → z ≡ leanlyAbandoned room n s
+  gives-one c q {d} {k} e h f =
+      gives (some c) (found-some (last (runs n (x .pending))) c q)
+      (f ∙ ap (λ (o : Sender). withFlight (filed k d (o .flight)) o) removed ∙ ap₂ (λ (i : ℕ) (t : Chunk). left (filed i t marked)) h e)
 
-pub gives-held : (n : ℕ) (s : Sender) {a b : ℕ} → a ≡ bytes (keep (isOf n) (s .flight .entries)) → b ≡ bytes (runs n (s .pending)) → a + b ≡ leanlyHeld n s
+pub gives-held : (n : ℕ) (s : Sender) {x : Sender} {a b : ℕ} → x ≡ withFlight (changed (map (givenUp n)) (s .flight)) s → a ≡ bytes (keep (isOf n) (s .flight .entries)) → b ≡ bytes (runs n (x .pending))
+    → a + b ≡ leanlyHeld n s
 unfolding leanlyHeld
-gives-held n s e q = ap₂ (λ (x y : ℕ). x + y) e q
+gives-held n s v e q = ap₂ (λ (i j : ℕ). i + j) e (q ∙ ap (λ (o : Sender). bytes (runs n (o .pending))) v)
 
 -- what passes a test holds no more than all
 pub keep-bytes : (p : Chunk → Bool) (l : List Chunk) → bytes (keep p l) ≤ bytes l

@@ -2,7 +2,7 @@
 use mathlib.Core.Path.{_≡_, refl, sym, ap, ap₂, _∙_}
 use mathlib.Core.Bool.{Bool, true, false, not, _&&_}
 use mathlib.Core.Option.{Option, none, some}
-use mathlib.Core.List.{List, [], _∷_, map}
+use mathlib.Core.List.{List, map}
 use Prim.Native.Nat.{ℕ, _≤_, _<_}
 use native.Mathlib.Omega.{arith}
 use lib.Dec.{leb, ltb}
@@ -16,14 +16,14 @@ use Rattle.model.specs.declared.Found.{Found}
 use Rattle.model.specs.declared.Lane.the-variants.{Ordered}
 use Rattle.model.specs.declared.Stream.{Stream}
 use Rattle.model.specs.Lists.{if_then_else_}
-use Rattle.model.specs.State.{Sender, Pending, Out, same, withPending, withRing}
+use Rattle.model.specs.State.{Sender, Pending, Out, same, withStreams, withPending, withRing}
 use Rattle.model.specs.Streams.{find}
 use Rattle.model.specs.Messages.{isDcep}
 use Rattle.model.specs.Rings.{head, lowered, dropSsn, compacted, bytes, overdue, expires, expiring, expirePending, tailExpires}
 use Rattle.model.specs.Flight.{found}
 use Rattle.pending_queue.specs.Runs.{runs, withoutRuns, runs-without, runs-pending}
 use Rattle.outbound_queue.specs.Outbound.{Good}
-use Rattle.outbound_expiry.specs.Lean.{leanlyExpiring, leanExpire}
+use Rattle.outbound_expiry.specs.Lean.{dropped, leanlyExpiring, leanExpire}
 
 -- ---- the tests, by what code finds of their parts
 
@@ -62,11 +62,6 @@ lean-expire now {room} {s} g = ap (λ (r : Out Expired). if ltb clockMax now the
 
 -- ---- the ways out
 
--- no stream's SSN drops where there is no stream
-no-streams : (id : ℕ) (l : List Stream) → l ≡ [] → l ≡ dropSsn (find id l) l
-no-streams id [] e = refl
-no-streams id (t ∷ l) e = let z : _≡_ {A = ℕ} 0 1 = cc in absurd (omega arith)
-
 module _ (now : ℕ) (s : Sender) where
   pub expire-late : clockMax < now → same (Expired.Refused beyondLimit) s ≡ leanExpire now s
   unfolding leanExpire
@@ -84,35 +79,47 @@ module _ (now : ℕ) (s : Sender) where
     expire-none e = at-head none (found-none (head (s .pending)) e) refl
 
     module _ (c : Chunk) (e : found (head (s .pending)) ≡ Found.One c) where
-      -- the message goes, and this is pending then
-      abbrev gone : Pending → ℕ → Out Expired
-      gone p n =
+      abbrev id : ℕ
+      id = c .message .stream
+
+      abbrev number : ℕ
+      number = c .message .number
+
+      -- the message goes, with this answer
+      abbrev gone : (unordered : Bool) → Out Expired
+      gone u =
           record {
-            after = compacted (c .message .unordered) (c .message .stream) (withPending p s);
-            says = Expired.Message (c .message .stream) (c .message .unordered) n;
+            after = compacted u id (withPending (withoutRuns number (s .pending)) s);
+            says = Expired.Message id (c .message .unordered) (bytes (runs number (s .pending)));
           }
 
       abbrev picks : Bool → Out Expired
-      picks b = if b then gone (withoutRuns (c .message .number) (s .pending)) (bytes (runs (c .message .number) (s .pending))) else same Expired.Nothing s
+      picks b = if b then gone (c .message .unordered) else same Expired.Nothing s
 
       pub expire-not : expires now c ≡ false → same Expired.Nothing s ≡ leanExpire now s
       expire-not q = at-head (some c) (found-some (head (s .pending)) c e) (sym (ap picks q))
 
-      module _ (q : expires now c ≡ true) {p : Pending} {n : ℕ} (v : p ≡ withoutRuns (c .message .number) (s .pending)) (w : n ≡ bytes (runs (c .message .number) (s .pending))) where
-        leaves : gone p n ≡ leanExpire now s
-        leaves = ap₂ gone v w ∙ at-head (some c) (found-some (head (s .pending)) c e) (sym (ap picks q))
+      -- `at-streams` is the sender then, by its streams
+      module _ (q : expires now c ≡ true) (at-streams : List Stream → Sender) {n : ℕ} (w : n ≡ bytes (runs number (s .pending))) where
+        abbrev told : List Stream → Out Expired
+        told ts = record { after = at-streams ts; says = Expired.Message id (c .message .unordered) n }
 
-        pub expire-unordered : c .message .unordered ≡ true
-            → record { after = withPending p s; says = Expired.Message (c .message .stream) (c .message .unordered) n } ≡ leanExpire now s
-        expire-unordered u =
-            sym (ap (λ (b : Bool). record { after = compacted b (c .message .stream) (withPending p s); says = Expired.Message (c .message .stream) (c .message .unordered) n }) u) ∙ leaves
+        leaves : gone (c .message .unordered) ≡ leanExpire now s
+        leaves = at-head (some c) (found-some (head (s .pending)) c e) (sym (ap picks q))
 
-        -- `l` is the ordered ring with the gap closed
-        pub expire-ordered : c .message .unordered ≡ false → s .streams ≡ [] → {l : List Chunk} → l ≡ map (lowered (c .message .stream)) (p .ordered)
-            → record { after = withPending (withRing Ordered (p .underWay) l p) s; says = Expired.Message (c .message .stream) (c .message .unordered) n } ≡ leanExpire now s
-        expire-ordered u z k =
-            ap₂ (λ (t : List Stream) (y : List Chunk). record {
-              after = record { streams = t; pending = withRing Ordered (p .underWay) y p; flight = s .flight; numbers = s .numbers };
-              says = Expired.Message (c .message .stream) (c .message .unordered) n;
-            }) (no-streams (c .message .stream) (s .streams) z) k
-            ∙ sym (ap (λ (b : Bool). record { after = compacted b (c .message .stream) (withPending p s); says = Expired.Message (c .message .stream) (c .message .unordered) n }) u) ∙ leaves
+        pub expire-unordered : c .message .unordered ≡ true → at-streams (s .streams) ≡ withPending (withoutRuns number (s .pending)) s
+            → told (dropped (Expired.Message id (c .message .unordered) n) (s .streams)) ≡ leanExpire now s
+        expire-unordered u v =
+            ap (λ (b : Bool). told (if b then s .streams else dropSsn (find id (s .streams)) (s .streams))) u
+            ∙ ap₂ (λ (x : Sender) (k : ℕ). record { after = x; says = Expired.Message id (c .message .unordered) k }) v w
+            ∙ sym (ap gone u) ∙ leaves
+
+        -- `x` has the message removed, and from it the gap is closed
+        pub expire-ordered : c .message .unordered ≡ false → {x : Sender} → x ≡ withPending (withoutRuns number (s .pending)) (withStreams (dropSsn (find id (s .streams)) (s .streams)) s)
+            → at-streams (dropSsn (find id (s .streams)) (s .streams)) ≡ withPending (withRing Ordered (x .pending .underWay) (map (lowered id) (x .pending .ordered)) (x .pending)) x
+            → told (dropped (Expired.Message id (c .message .unordered) n) (s .streams)) ≡ leanExpire now s
+        expire-ordered u v k =
+            ap (λ (b : Bool). told (if b then s .streams else dropSsn (find id (s .streams)) (s .streams))) u
+            ∙ ap₂ (λ (x : Sender) (i : ℕ). record { after = x; says = Expired.Message id (c .message .unordered) i })
+            (k ∙ ap (λ (x : Sender). withPending (withRing Ordered (x .pending .underWay) (map (lowered id) (x .pending .ordered)) (x .pending)) x) v) w
+            ∙ sym (ap gone u) ∙ leaves

@@ -11,10 +11,12 @@ use Rattle.model.specs.declared.Abandoned.{Abandoned}
 use Rattle.model.specs.declared.Chunk.{Chunk}
 use Rattle.model.specs.declared.Expired.{Expired}
 use Rattle.model.specs.declared.Listed.{Listed}
+use Rattle.model.specs.declared.Stream.{Stream}
 use Rattle.model.specs.declared.TailExpired.{TailExpired}
 use Rattle.model.specs.Lists.{if_then_else_, keep, last}
 use Rattle.model.specs.State.{Sender, Flight, Out, same, inFlight, isOf, withPending}
-use Rattle.model.specs.Rings.{head, compacted, bytes, expires, givenUp, terminator, tailExpires, Listing, tsnsAre, refused, listing}
+use Rattle.model.specs.Streams.{find}
+use Rattle.model.specs.Rings.{head, dropSsn, compacted, bytes, expires, givenUp, terminator, tailExpires, Listing, tsnsAre, refused, listing}
 use Rattle.demands.specs.Words.{numberUnderWay}
 use Rattle.payload_queue.specs.declared.Pending.{Pending as Awaited}
 use Rattle.payload_queue.specs.Queue.{changed, filed, overdueTsns}
@@ -35,6 +37,12 @@ leanlyExpiring (some c) now s =
 
 unfoldable pub leanExpire : (now : ℕ) → Sender → Out Expired
 leanExpire now s = if ltb clockMax now then same (Expired.Refused beyondLimit) s else leanlyExpiring (head (s .pending)) now s
+
+-- what the answer means for the streams: behind an ordered message the next SSN of its stream drops
+abbrev pub dropped : Expired → List Stream → List Stream
+dropped (Expired.Message id u b) ts = if u then ts else dropSsn (find id ts) ts
+dropped Expired.Nothing ts = ts
+dropped (Expired.Refused n) ts = ts
 
 -- ---- a message is abandoned
 

@@ -9,18 +9,17 @@ use model::Found;
 use model::Listed;
 use model::TailExpired;
 use outbound_queue::OutboundQueue;
-use payload_queue::PayloadQueue;
 use payload_queue::Pending;
-use pending_queue::PendingQueue;
 ghost use mathlib.Core.Path.{_≡_};
 ghost use mathlib.Core.List.{List};
 ghost use Prim.Native.Nat.{ℕ};
 ghost use lib.ListN.{length};
 ghost use Rattle.model.specs.Rings.{overdue, expires, expirePending, terminator, abandon, tailExpires, expirePendingTail, expiredInflight};
+ghost use Rattle.limits.specs.Limits.{Room};
+ghost use Rattle.model.specs.declared.Stream.{Stream};
 ghost use Rattle.demands.specs.Words.{numberUnderWay};
-ghost use Rattle.pending_queue.specs.Queue.{pendingIn};
-ghost use Rattle.outbound_queue.specs.Outbound.{senderOf, roomIn, Counted, Does};
-ghost use Rattle.outbound_expiry.specs.Lean.{leanExpire, leanlyAbandoned, leanlyHeld, leanAbandon, leanExpireTail, named, leanList, listedIn};
+ghost use Rattle.outbound_queue.specs.Outbound.{ringsIn, ringRoom, waiting, senderOf, Counted, Does};
+ghost use Rattle.outbound_expiry.specs.Lean.{dropped, leanExpire, leanlyAbandoned, leanlyHeld, leanAbandon, leanExpireTail, named, leanList, listedIn};
 
 pub struct Expiring {
     pub queue: OutboundQueue,
@@ -62,26 +61,10 @@ fn is_expired(chunk: Chunk, clock: u64) -> bool
     is_overdue(chunk, clock)
 }
 
-// The queue with other parts.
-fn with_parts(q: OutboundQueue, pending: PendingQueue, inflight: PayloadQueue) -> OutboundQueue
-    ensures { λ r. ⌜ r ≡ record { pending = pending; inflight = inflight; «next_message_id» = q .«next_message_id»; «next_unstarted_message_id» = q .«next_unstarted_message_id» } ⌝ }
-{
-    OutboundQueue {
-        pending: pending,
-        inflight: inflight,
-        next_message_id: q.next_message_id,
-        next_unstarted_message_id: q.next_unstarted_message_id,
-    }
-}
-
-// A wholly unsent message at the head goes, and takes no TSN; behind an ordered one the SSNs of its stream close the gap.
-pub fn expire_pending(
-    q: OutboundQueue,
-    unordered: &[u64],
-    ordered: &mut [u64],
-    clock: u64,
-) -> Expiring
-    ensures { λ r. ⌜ ((f : List ℕ) → Does (roomIn f) (senderOf q (now (unordered .entry)) (now (ordered .entry)) f) (record { after = senderOf (r .queue) (now (unordered .entry)) (now (ordered .exit)) f; says = r .answer }) (leanExpire clock (senderOf q (now (unordered .entry)) (now (ordered .entry)) f)) (expirePending clock (senderOf q (now (unordered .entry)) (now (ordered .entry)) f)) × (Counted q (now (unordered .entry)) (now (ordered .entry)) f → Counted (r .queue) (now (unordered .entry)) (now (ordered .exit)) f)) ⌝ }
+// A wholly unsent message at the head goes, and takes no TSN; behind an ordered one the SSNs of its stream close the gap. The stream's own
+// next SSN is the caller's to lower (`dropped`).
+pub fn expire_pending(q: OutboundQueue, cells: &mut [u64], clock: u64) -> Expiring
+    ensures { λ r. ⌜ ((room : Room) (ts : List Stream) → Does room (senderOf ts q (now (cells .entry))) (record { after = senderOf (dropped (r .answer) ts) (r .queue) (now (cells .exit)); says = r .answer }) (leanExpire clock (senderOf ts q (now (cells .entry)))) (expirePending clock (senderOf ts q (now (cells .entry))))) × (Counted q (now (cells .entry)) → Counted (r .queue) (now (cells .exit))) ⌝ }
 {
     if limits::CLOCK_MAX < clock {
         return Expiring {
@@ -89,7 +72,7 @@ pub fn expire_pending(
             answer: Expired::Refused(limits::BEYOND_LIMIT),
         };
     }
-    let front = pending_queue::peek(q.pending, unordered, ordered);
+    let front = outbound_queue::peek_pending(q, cells);
     let Found::One(chunk) = front else {
         return Expiring {
             queue: q,
@@ -103,8 +86,8 @@ pub fn expire_pending(
         };
     }
     let message = chunk.message;
-    let removed = pending_queue::remove_message(q.pending, unordered, ordered, message.number);
-    let after = with_parts(q, removed.queue, q.inflight);
+    let removed = outbound_steps::remove_pending(q, cells, message.number);
+    let rest = removed.queue;
     let answer = Expired::Message {
         stream: message.stream,
         unordered: message.unordered,
@@ -112,13 +95,13 @@ pub fn expire_pending(
     };
     if message.unordered {
         return Expiring {
-            queue: after,
+            queue: rest,
             answer: answer,
         };
     }
-    pending_queue::compact_ordered_ssns(removed.queue, ordered, message.stream);
+    outbound_steps::lower_ssns(rest, cells, message.stream);
     Expiring {
-        queue: after,
+        queue: rest,
         answer: answer,
     }
 }
@@ -148,28 +131,21 @@ struct GivenUp {
 }
 
 // A message is given up in flight, and what is pending of it goes; a terminator stands for that. The bytes are all that it held.
-fn give_up(
-    q: OutboundQueue,
-    unordered: &[u64],
-    ordered: &[u64],
-    flight: &mut [u64],
-    number: u64,
-) -> GivenUp
-    ensures { λ r. ⌜ (senderOf (r .queue) (now (unordered .entry)) (now (ordered .entry)) (now (flight .exit)) ≡ leanlyAbandoned (roomIn (now (flight .entry))) number (senderOf q (now (unordered .entry)) (now (ordered .entry)) (now (flight .entry)))) × (r .bytes ≡ leanlyHeld number (senderOf q (now (unordered .entry)) (now (ordered .entry)) (now (flight .entry)))) × (Counted q (now (unordered .entry)) (now (ordered .entry)) (now (flight .entry)) → Counted (r .queue) (now (unordered .entry)) (now (ordered .entry)) (now (flight .exit))) ⌝ }
+fn give_up(q: OutboundQueue, cells: &mut [u64], number: u64) -> GivenUp
+    ensures { λ r. ⌜ ((room : Room) (ts : List Stream) → room .flight ≡ ringRoom (now (cells .entry)) → (senderOf ts (r .queue) (now (cells .exit)) ≡ leanlyAbandoned room number (senderOf ts q (now (cells .entry)))) × (r .bytes ≡ leanlyHeld number (senderOf ts q (now (cells .entry))))) × (Counted q (now (cells .entry)) → Counted (r .queue) (now (cells .exit))) ⌝ }
 {
-    let freed = payload_queue::abandon_message(q.inflight, flight, number);
-    let removed = pending_queue::remove_message(q.pending, unordered, ordered, number);
+    let freed = outbound_steps::give_up_entries(q, cells, number);
+    let removed = outbound_steps::remove_pending(freed.queue, cells, number);
     let bytes = freed.bytes + removed.bytes;
+    let rest = removed.queue;
     let last = removed.last;
     let Found::One(chunk) = last else {
-        let after = with_parts(q, removed.queue, freed.queue);
         return GivenUp {
-            queue: after,
+            queue: rest,
             bytes: bytes,
         };
     };
-    let longer = payload_queue::push(freed.queue, flight, terminate(chunk));
-    let after = with_parts(q, removed.queue, longer);
+    let after = outbound_steps::file(rest, cells, terminate(chunk));
     GivenUp {
         queue: after,
         bytes: bytes,
@@ -177,16 +153,10 @@ fn give_up(
 }
 
 // Gives up the message of a TSN in flight, whatever its reliability.
-pub fn abandon(
-    q: OutboundQueue,
-    unordered: &[u64],
-    ordered: &[u64],
-    flight: &mut [u64],
-    tsn: u32,
-) -> Abandoning
-    ensures { λ r. ⌜ Does (roomIn (now (flight .entry))) (senderOf q (now (unordered .entry)) (now (ordered .entry)) (now (flight .entry))) (record { after = senderOf (r .queue) (now (unordered .entry)) (now (ordered .entry)) (now (flight .exit)); says = r .answer }) (leanAbandon (roomIn (now (flight .entry))) tsn (senderOf q (now (unordered .entry)) (now (ordered .entry)) (now (flight .entry)))) (abandon tsn (senderOf q (now (unordered .entry)) (now (ordered .entry)) (now (flight .entry)))) × (Counted q (now (unordered .entry)) (now (ordered .entry)) (now (flight .entry)) → Counted (r .queue) (now (unordered .entry)) (now (ordered .entry)) (now (flight .exit))) ⌝ }
+pub fn abandon(q: OutboundQueue, cells: &mut [u64], tsn: u32) -> Abandoning
+    ensures { λ r. ⌜ ((room : Room) (ts : List Stream) → room .flight ≡ ringRoom (now (cells .entry)) → Does room (senderOf ts q (now (cells .entry))) (record { after = senderOf ts (r .queue) (now (cells .exit)); says = r .answer }) (leanAbandon room tsn (senderOf ts q (now (cells .entry)))) (abandon tsn (senderOf ts q (now (cells .entry))))) × (Counted q (now (cells .entry)) → Counted (r .queue) (now (cells .exit))) ⌝ }
 {
-    let entry = payload_queue::get(q.inflight, flight, tsn);
+    let entry = outbound_queue::get(q, cells, tsn);
     let Found::One(chunk) = entry else {
         return Abandoning {
             queue: q,
@@ -203,7 +173,7 @@ pub fn abandon(
             },
         };
     }
-    let given = give_up(q, unordered, ordered, flight, message.number);
+    let given = give_up(q, cells, message.number);
     let after = given.queue;
     Abandoning {
         queue: after,
@@ -225,14 +195,8 @@ fn tail_is_expired(chunk: Chunk, clock: u64) -> bool
 }
 
 // Gives up the message under way, if its rest has expired.
-pub fn expire_pending_tail(
-    q: OutboundQueue,
-    unordered: &[u64],
-    ordered: &[u64],
-    flight: &mut [u64],
-    clock: u64,
-) -> TailExpiring
-    ensures { λ r. ⌜ Does (roomIn (now (flight .entry))) (senderOf q (now (unordered .entry)) (now (ordered .entry)) (now (flight .entry))) (record { after = senderOf (r .queue) (now (unordered .entry)) (now (ordered .entry)) (now (flight .exit)); says = r .answer }) (leanExpireTail (roomIn (now (flight .entry))) clock (senderOf q (now (unordered .entry)) (now (ordered .entry)) (now (flight .entry)))) (expirePendingTail clock (senderOf q (now (unordered .entry)) (now (ordered .entry)) (now (flight .entry)))) × (Counted q (now (unordered .entry)) (now (ordered .entry)) (now (flight .entry)) → Counted (r .queue) (now (unordered .entry)) (now (ordered .entry)) (now (flight .exit))) ⌝ }
+pub fn expire_pending_tail(q: OutboundQueue, cells: &mut [u64], clock: u64) -> TailExpiring
+    ensures { λ r. ⌜ ((room : Room) (ts : List Stream) → room .flight ≡ ringRoom (now (cells .entry)) → Does room (senderOf ts q (now (cells .entry))) (record { after = senderOf ts (r .queue) (now (cells .exit)); says = r .answer }) (leanExpireTail room clock (senderOf ts q (now (cells .entry)))) (expirePendingTail clock (senderOf ts q (now (cells .entry))))) × (Counted q (now (cells .entry)) → Counted (r .queue) (now (cells .exit))) ⌝ }
 {
     if limits::CLOCK_MAX < clock {
         return TailExpiring {
@@ -240,7 +204,7 @@ pub fn expire_pending_tail(
             answer: TailExpired::Refused(limits::BEYOND_LIMIT),
         };
     }
-    let front = pending_queue::peek(q.pending, unordered, ordered);
+    let front = outbound_queue::peek_pending(q, cells);
     let Found::One(chunk) = front else {
         return TailExpiring {
             queue: q,
@@ -254,7 +218,7 @@ pub fn expire_pending_tail(
         };
     }
     let message = chunk.message;
-    let given = give_up(q, unordered, ordered, flight, message.number);
+    let given = give_up(q, cells, message.number);
     let after = given.queue;
     TailExpiring {
         queue: after,
@@ -267,13 +231,13 @@ pub fn expire_pending_tail(
 }
 
 // The message under way: the only one that can be both in flight and pending.
-fn under_way(pending: PendingQueue, unordered: &[u64], ordered: &[u64]) -> Pending
-    ensures { λ r. ⌜ r ≡ named (numberUnderWay (pendingIn pending (now (unordered .entry)) (now (ordered .entry)))) ⌝ }
+fn under_way(q: OutboundQueue, cells: &[u64]) -> Pending
+    ensures { λ r. ⌜ r ≡ named (numberUnderWay (waiting q (ringsIn (now (cells .entry))))) ⌝ }
 {
-    if !pending.selected {
+    if !q.pending.selected {
         return Pending::Nothing;
     }
-    let front = pending_queue::peek(pending, unordered, ordered);
+    let front = outbound_queue::peek_pending(q, cells);
     let Found::One(chunk) = front else {
         return Pending::Nothing;
     };
@@ -282,19 +246,13 @@ fn under_way(pending: PendingQueue, unordered: &[u64], ordered: &[u64]) -> Pendi
 }
 
 // The TSNs in flight whose message has expired, oldest first, in the front of the lent list; the rest of that stays.
-pub fn expired_inflight(
-    q: OutboundQueue,
-    unordered: &[u64],
-    ordered: &[u64],
-    flight: &[u64],
-    clock: u64,
-    out: &mut [u32],
-) -> Listed
-    ensures { λ r. ⌜ Does (roomIn (now (flight .entry))) (senderOf q (now (unordered .entry)) (now (ordered .entry)) (now (flight .entry))) (record { answer = r; list = now (out .exit) }) (listedIn (now (out .entry)) (leanList clock (length (now (out .entry))) (senderOf q (now (unordered .entry)) (now (ordered .entry)) (now (flight .entry))))) (listedIn (now (out .entry)) (expiredInflight clock (length (now (out .entry))) (senderOf q (now (unordered .entry)) (now (ordered .entry)) (now (flight .entry))))) ⌝ }
+pub fn expired_inflight(q: OutboundQueue, cells: &[u64], clock: u64, out: &mut [u32]) -> Listed
+    ensures { λ r. ⌜ ((room : Room) (ts : List Stream) → Does room (senderOf ts q (now (cells .entry))) (record { answer = r; list = now (out .exit) }) (listedIn (now (out .entry)) (leanList clock (length (now (out .entry))) (senderOf ts q (now (cells .entry))))) (listedIn (now (out .entry)) (expiredInflight clock (length (now (out .entry))) (senderOf ts q (now (cells .entry)))))) ⌝ }
 {
     if limits::CLOCK_MAX < clock {
         return Listed::Refused(limits::BEYOND_LIMIT);
     }
-    let awaited = under_way(q.pending, unordered, ordered);
-    payload_queue::expired(q.inflight, flight, clock, awaited, out)
+    let awaited = under_way(q, cells);
+    let k = cells.len() / 24 * 8;
+    payload_queue::expired(q.inflight, &cells[k + k..k + k + k], clock, awaited, out)
 }

@@ -8,7 +8,6 @@ use native.Mathlib.Omega.{arith}
 use lib.Dec.{eqb}
 use Rattle.model.specs.declared.Chunk.{Chunk}
 use Rattle.model.specs.declared.Found.{Found}
-use Rattle.model.specs.State.{Sender}
 use Rattle.model.specs.Flight.{found, isAbandoned, hasStream}
 use Rattle.pending_queue.specs.Queue.{some-in}
 
@@ -23,10 +22,6 @@ known-is none c e = let z : _≡_ {A = ℕ} 0 1 = cc in absurd (omega arith)
 known-is (some d) c e = let q : c ≡ d = cc in ap (λ (y : Chunk). y .abandoned) q
 
 -- ---- whether a stream has chunks
-
--- pending or in flight
-abbrev pub streamIn : (stream : ℕ) → Sender → Bool
-streamIn id s = hasStream id (s .pending .unordered ++ s .pending .ordered ++ s .flight .entries)
 
 -- `r` says whether among those pending
 pub stream-in : (id : ℕ) (u o f : List Chunk) {r : Bool} → r ≡ hasStream id (u ++ o) → (r || hasStream id f) ≡ hasStream id (u ++ o ++ f)

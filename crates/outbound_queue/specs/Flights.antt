@@ -12,10 +12,13 @@ module _ (t : ℕ) (s : Sender) where
   unfolding pop
   pop-is e = ap (λ (y : Pop). record { after = withFlight (y .flight) s; says = y .front }) e ∙ sym (popping-is (s .flight .entries) t s)
 
-  pub acked-is : {f : Flight} {n : ℕ} → f ≡ acked t (s .flight) → n ≡ heldIn (inFlight t (s .flight)) → record { after = withFlight f s; says = n } ≡ acknowledge t s
+  -- `x` is the sender then
+  pub acked-is : {x : Sender} {f : Flight} {n : ℕ} → x ≡ withFlight f s → f ≡ acked t (s .flight) → n ≡ heldIn (inFlight t (s .flight)) → record { after = x; says = n } ≡ acknowledge t s
   unfolding acknowledge
-  acked-is e q = ap₂ (λ (g : Flight) (m : ℕ). record { after = withFlight g s; says = m }) e q ∙ sym (acknowledging-is t s)
+  acked-is {n = n} z e q =
+      ap (λ (y : Sender). record { after = y; says = n }) z
+      ∙ ap₂ (λ (g : Flight) (m : ℕ). record { after = withFlight g s; says = m }) e q ∙ sym (acknowledging-is t s)
 
-pub marked-is : (s : Sender) {f : Flight} → f ≡ changed (map toRetransmit) (s .flight) → withFlight f s ≡ markAll s
+pub marked-is : (s : Sender) {x : Sender} {f : Flight} → x ≡ withFlight f s → f ≡ changed (map toRetransmit) (s .flight) → x ≡ markAll s
 unfolding markAll
-marked-is s e = ap (λ (g : Flight). withFlight g s) e
+marked-is s z e = z ∙ ap (λ (g : Flight). withFlight g s) e

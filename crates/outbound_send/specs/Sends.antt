@@ -7,7 +7,7 @@ use Prim.Native.Nat.{ℕ, suc, _≤_, _<_, min}
 use native.Mathlib.Omega.{arith}
 use lib.ListN.{length}
 use lib.Dec.{leb, ltb}
-use borrow.Author.Tests.{lt-ltb, le-ltb, lt-leb, leb-false}
+use borrow.Author.Tests.{lt-ltb, le-ltb, leb-false}
 use Rattle.limits.specs.Limits.{Room, clockMax}
 use Rattle.limits.specs.Refusals.{beyondLimit, flightFull}
 use Rattle.model.specs.declared.Chunk.{Chunk}
@@ -19,15 +19,17 @@ use Rattle.model.specs.declared.Sent.{Sent}
 use Rattle.model.specs.declared.UnderWay.{UnderWay}
 use Rattle.model.specs.declared.UnderWay.the-variants.{Idle, Sending}
 use Rattle.model.specs.Lists.{if_then_else_, first}
-use Rattle.model.specs.State.{Sender, Pending, Flight, Out, at, inRings, same, nextTsn}
+use Rattle.model.specs.State.{Sender, Pending, Out, at, inRings, same, nextTsn, withPending}
 use Rattle.model.specs.Rings.{headLane, head, started, startLifetimes, withLifetimes, send, sending, sentAt, taken}
 use Rattle.model.specs.Flight.{found}
 use Rattle.rows.specs.Walks.{all}
 use Rattle.payload_queue.specs.Queue.{filed}
+use Rattle.payload_queue.specs.Model.{withFlight}
 use Rattle.pending_queue.specs.Fronts.{popped, poppedFrom, popped-none}
 use Rattle.pending_queue.specs.Lifetimes.{unseen, startedEnd, started-rings}
 use Rattle.outbound_queue.specs.Outbound.{Good}
-use Rattle.outbound_send.specs.Lean.{seenWith, endsStarted, leanStart, leanSend}
+use Rattle.outbound_steps.specs.Steps.{seenWith, endsStarted}
+use Rattle.outbound_send.specs.Lean.{leanStart, leanSend}
 
 -- ---- in a Good state the ends of the rings are all that was not seen
 
@@ -51,28 +53,28 @@ module _ (now : ℕ) (s : Sender) where
   start-late h = sym (ap (λ (b : Bool). if b then same (Done.Refused beyondLimit) s else record { after = endsStarted now s; says = Done.Done }) (lt-ltb clockMax now h))
 
   -- the clock is in range
-  pub in-range : now ≤ clockMax → {p : Pending} → p ≡ inRings (startedEnd (min now clockMax) (s .numbers .unstarted)) (s .pending) → p ≡ endsStarted now s .pending
-  in-range h e = let m : min now clockMax ≡ now = omega arith in e ∙ ap (λ (n : ℕ). inRings (startedEnd n (s .numbers .unstarted)) (s .pending)) m
+  pub in-range : now ≤ clockMax → {x : Sender} → x ≡ endsStarted (min now clockMax) s → x ≡ endsStarted now s
+  in-range h e = let m : min now clockMax ≡ now = omega arith in e ∙ ap (λ (n : ℕ). endsStarted n s) m
 
-  pub start-all : now ≤ clockMax → {p : Pending} → p ≡ endsStarted now s .pending → record { after = seenWith p s; says = Done.Done } ≡ leanStart now s
+  pub start-all : now ≤ clockMax → {x : Sender} → x ≡ endsStarted now s → record { after = x; says = Done.Done } ≡ leanStart now s
   unfolding leanStart
   start-all h e =
-      ap (λ (p : Pending). record { after = seenWith p s; says = Done.Done }) e
+      ap (λ (y : Sender). record { after = y; says = Done.Done }) e
       ∙ sym (ap (λ (b : Bool). if b then same (Done.Refused beyondLimit) s else record { after = endsStarted now s; says = Done.Done }) (le-ltb clockMax now h))
 
 -- ---- whether there is a head and no room for it, which is asked before lifetimes start
 
-abbrev pub blocked : Option Chunk → Room → Sender → Bool
-blocked none room s = false
-blocked (some c) room s = leb (room .flight) (suc (length (s .flight .entries)))
+abbrev pub blocked : Option Chunk → (room : ℕ) → (entries : List Chunk) → Bool
+blocked none room f = false
+blocked (some c) room f = leb room (suc (length f))
 
-pub blocked-none : (h : Option Chunk) (room : Room) (s : Sender) → found h ≡ Found.Nothing → false ≡ blocked h room s
-blocked-none none room s e = refl
-blocked-none (some c) room s e = let z : _≡_ {A = ℕ} 0 1 = cc in absurd (omega arith)
+pub blocked-none : (h : Option Chunk) (room : ℕ) (f : List Chunk) → found h ≡ Found.Nothing → false ≡ blocked h room f
+blocked-none none room f e = refl
+blocked-none (some c) room f e = let z : _≡_ {A = ℕ} 0 1 = cc in absurd (omega arith)
 
-pub blocked-one : (h : Option Chunk) (c : Chunk) (room : Room) (s : Sender) → found h ≡ Found.One c → leb (room .flight) (suc (length (s .flight .entries))) ≡ blocked h room s
-blocked-one none c room s e = let z : _≡_ {A = ℕ} 0 1 = cc in absurd (omega arith)
-blocked-one (some d) c room s e = refl
+pub blocked-one : (h : Option Chunk) (c : Chunk) (room : ℕ) (f : List Chunk) → found h ≡ Found.One c → leb room (suc (length f)) ≡ blocked h room f
+blocked-one none c room f e = let z : _≡_ {A = ℕ} 0 1 = cc in absurd (omega arith)
+blocked-one (some d) c room f e = refl
 
 -- ---- the head's ring with lifetimes started
 
@@ -90,11 +92,11 @@ module _ (now k : ℕ) where
   ahead-started (Sending Unordered) u o = refl
   ahead-started (Sending Ordered) u o = refl
 
-  blocked-by : (room : Room) (s : Sender) (x : List Chunk) → blocked (first (startedEnd now k x)) room s ≡ blocked (first x) room s
-  blocked-by room s [] = refl
-  blocked-by room s (c ∷ x) = by (all (unseen k) (c ∷ x))
+  blocked-by : (room : ℕ) (f x : List Chunk) → blocked (first (startedEnd now k x)) room f ≡ blocked (first x) room f
+  blocked-by room f [] = refl
+  blocked-by room f (c ∷ x) = by (all (unseen k) (c ∷ x))
     where
-      by : (b : Bool) → blocked (first (if b then map (started now k) (c ∷ x) else (c ∷ startedEnd now k x))) room s ≡ leb (room .flight) (suc (length (s .flight .entries)))
+      by : (b : Bool) → blocked (first (if b then map (started now k) (c ∷ x) else (c ∷ startedEnd now k x))) room f ≡ leb room (suc (length f))
       by true = refl
       by false = refl
 
@@ -115,58 +117,65 @@ module _ (room : Room) (now : ℕ) (s : Sender) where
   unfolding leanSend
   send-late h = sym (ap sends (lt-ltb clockMax now h))
 
-  still-blocked : blocked (first (ahead (begun .pending))) room s ≡ blocked (head (s .pending)) room s
-  still-blocked =
-      let k = s .numbers .unstarted in
-      ap (λ (x : List Chunk). blocked (first x) room s) (ahead-started now k (s .pending .underWay) (s .pending .unordered) (s .pending .ordered))
-      ∙ blocked-by now k room s (ahead (s .pending))
+  -- `n` is the room, as code counts it
+  module _ {n : ℕ} (r : room .flight ≡ n) where
+    still-blocked : blocked (first (ahead (begun .pending))) (room .flight) (s .flight .entries) ≡ blocked (head (s .pending)) n (s .flight .entries)
+    still-blocked =
+        let k = s .numbers .unstarted in
+        ap (λ (x : List Chunk). blocked (first x) (room .flight) (s .flight .entries)) (ahead-started now k (s .pending .underWay) (s .pending .unordered) (s .pending .ordered))
+        ∙ blocked-by now k (room .flight) (s .flight .entries) (ahead (s .pending)) ∙ ap (λ (i : ℕ). blocked (head (s .pending)) i (s .flight .entries)) r
 
-  module _ (h : now ≤ clockMax) where
-    opened : {r : Out Sent} → r ≡ sending (headLane (begun .pending)) (ahead (begun .pending)) room now s begun → r ≡ leanSend room now s
-    unfolding leanSend
-    opened e = e ∙ sym (ap sends (le-ltb clockMax now h))
+    module _ (h : now ≤ clockMax) where
+      opened : {r : Out Sent} → r ≡ sending (headLane (begun .pending)) (ahead (begun .pending)) room now s begun → r ≡ leanSend room now s
+      unfolding leanSend
+      opened e = e ∙ sym (ap sends (le-ltb clockMax now h))
 
-    full-by : (l : Lane) (x : List Chunk) → blocked (first x) room s ≡ true → same (Sent.Refused flightFull) s ≡ sending l x room now s begun
-    full-by l [] e = let z : _≡_ {A = ℕ} 0 1 = cc in absurd (omega arith)
-    full-by l (c ∷ x) e = sym (ap (λ (b : Bool). if b then same (Sent.Refused flightFull) s else record { after = taken l now c x begun; says = Sent.Yielded (nextTsn s) (sentAt now c) }) e)
+      full-by : (l : Lane) (x : List Chunk) → blocked (first x) (room .flight) (s .flight .entries) ≡ true → same (Sent.Refused flightFull) s ≡ sending l x room now s begun
+      full-by l [] e = let z : _≡_ {A = ℕ} 0 1 = cc in absurd (omega arith)
+      full-by l (c ∷ x) e = sym (ap (λ (b : Bool). if b then same (Sent.Refused flightFull) s else record { after = taken l now c x begun; says = Sent.Yielded (nextTsn s) (sentAt now c) }) e)
 
-    pub send-full : blocked (head (s .pending)) room s ≡ true → same (Sent.Refused flightFull) s ≡ leanSend room now s
-    send-full e = opened (full-by (headLane (begun .pending)) (ahead (begun .pending)) (still-blocked ∙ e))
+      pub send-full : blocked (head (s .pending)) n (s .flight .entries) ≡ true → same (Sent.Refused flightFull) s ≡ leanSend room now s
+      send-full e = opened (full-by (headLane (begun .pending)) (ahead (begun .pending)) (still-blocked ∙ e))
 
-    none-of : (x : List Chunk) → found (first x) ≡ Found.Nothing → x ≡ []
-    none-of [] e = refl
-    none-of (c ∷ x) e = let z : _≡_ {A = ℕ} 0 1 = cc in absurd (omega arith)
+      none-of : (x : List Chunk) → found (first x) ≡ Found.Nothing → x ≡ []
+      none-of [] e = refl
+      none-of (c ∷ x) e = let z : _≡_ {A = ℕ} 0 1 = cc in absurd (omega arith)
 
-    -- `p` has lifetimes started, and `rest` is what is left of it
-    module _ {p rest : Pending} (e : p ≡ begun .pending) (r : rest ≡ popped p) where
-      pub send-none : found (head p) ≡ Found.Nothing → record { after = seenWith rest s; says = Sent.Nothing } ≡ leanSend room now s
-      send-none q =
-          ap (λ (y : Pending). record { after = seenWith y s; says = Sent.Nothing }) (r ∙ sym (popped-none p q) ∙ e)
-          ∙ opened (sym (ap (λ (x : List Chunk). sending (headLane (begun .pending)) x room now s begun) (none-of (ahead (begun .pending)) (sym (ap (λ (y : Pending). found (head y)) e) ∙ q))))
+      -- `x` has lifetimes started, and from `y` the head is gone
+      module _ {x y : Sender} (e : x ≡ begun) (t : y ≡ withPending (popped (x .pending)) x) where
+        pub send-none : found (head (x .pending)) ≡ Found.Nothing → record { after = y; says = Sent.Nothing } ≡ leanSend room now s
+        send-none q =
+            ap (λ (z : Sender). record { after = z; says = Sent.Nothing }) (t ∙ ap (λ (p : Pending). withPending p x) (sym (popped-none (x .pending) q)) ∙ e)
+            ∙ opened (sym (ap (λ (l : List Chunk). sending (headLane (begun .pending)) l room now s begun) (none-of (ahead (begun .pending)) (sym (ap (λ (z : Sender). found (head (z .pending))) e) ∙ q))))
 
-      -- the sender behind it, of which these are pending and in flight
-      abbrev sentWith : Pending → Flight → Chunk → Out Sent
-      sentWith y f c =
-          record {
-            after = record { streams = s .streams; pending = y; flight = f; numbers = begun .numbers };
-            says = Sent.Yielded (nextTsn s) (sentAt now c);
-          }
+        -- the sender behind it, of which this is pending
+        abbrev sentWith : Pending → Chunk → Out Sent
+        sentWith p c =
+            record {
+              after = withFlight (filed (room .flight) (sentAt now c) (s .flight)) (withPending p begun);
+              says = Sent.Yielded (nextTsn s) (sentAt now c);
+            }
 
-      one-by : (l : Lane) (x : List Chunk) (c : Chunk) → found (first x) ≡ Found.One c → blocked (first x) room s ≡ false
-          → sentWith (poppedFrom l x (begun .pending)) (filed (room .flight) (sentAt now c) (s .flight)) c ≡ sending l x room now s begun
-      one-by l [] c q n = let z : _≡_ {A = ℕ} 0 1 = cc in absurd (omega arith)
-      one-by l (d ∷ x) c q n =
-          let k : c ≡ d = cc in
-          let t = leb-false (room .flight) (suc (length (s .flight .entries))) n in
-          ap (λ (b : Bool). sentWith (poppedFrom l (d ∷ x) (begun .pending)) (record { oldest = s .flight .oldest; entries = if b then s .flight .entries ++ (sentAt now c ∷ []) else s .flight .entries }) c) (lt-ltb (length (s .flight .entries)) (room .flight) (omega arith))
-          ∙ ap (λ (y : Chunk). sentWith (poppedFrom l (d ∷ x) (begun .pending)) (record { oldest = s .flight .oldest; entries = s .flight .entries ++ (sentAt now y ∷ []) }) y) k
-          ∙ sym (ap (λ (b : Bool). if b then same (Sent.Refused flightFull) s else record { after = taken l now d x begun; says = Sent.Yielded (nextTsn s) (sentAt now d) }) n)
+        one-by : (l : Lane) (k : List Chunk) (c : Chunk) → found (first k) ≡ Found.One c → blocked (first k) (room .flight) (s .flight .entries) ≡ false
+            → sentWith (poppedFrom l k (begun .pending)) c ≡ sending l k room now s begun
+        one-by l [] c q n = let z : _≡_ {A = ℕ} 0 1 = cc in absurd (omega arith)
+        one-by l (d ∷ k) c q n =
+            let it : c ≡ d = cc in
+            let f = leb-false (room .flight) (suc (length (s .flight .entries))) n in
+            ap (sentWith (poppedFrom l (d ∷ k) (begun .pending))) it
+            ∙ ap (λ (b : Bool). record {
+              after = withFlight (record { oldest = s .flight .oldest; entries = if b then s .flight .entries ++ (sentAt now d ∷ []) else s .flight .entries }) (withPending (poppedFrom l (d ∷ k) (begun .pending)) begun);
+              says = Sent.Yielded (nextTsn s) (sentAt now d);
+            }) (lt-ltb (length (s .flight .entries)) (room .flight) (omega arith))
+            ∙ sym (ap (λ (b : Bool). if b then same (Sent.Refused flightFull) s else record { after = taken l now d k begun; says = Sent.Yielded (nextTsn s) (sentAt now d) }) n)
 
-      -- `f` is the flight behind the send
-      pub send-one : (c : Chunk) → found (head p) ≡ Found.One c → blocked (head (s .pending)) room s ≡ false
-          → {f : Flight} {t : ℕ} {sent : Chunk} → sent ≡ sentAt now c → f ≡ filed (room .flight) sent (s .flight) → t ≡ nextTsn s
-          → record { after = record { streams = s .streams; pending = rest; flight = f; numbers = begun .numbers }; says = Sent.Yielded t sent } ≡ leanSend room now s
-      send-one c q n {t = k} {sent} v w t =
-          ap₂ (λ (y : Pending) (g : Flight). record { after = record { streams = s .streams; pending = y; flight = g; numbers = begun .numbers }; says = Sent.Yielded k sent }) (r ∙ ap popped e) (w ∙ ap (λ (y : Chunk). filed (room .flight) y (s .flight)) v)
-          ∙ ap₂ (λ (k : ℕ) (y : Chunk). record { after = record { streams = s .streams; pending = popped (begun .pending); flight = filed (room .flight) (sentAt now c) (s .flight); numbers = begun .numbers }; says = Sent.Yielded k y }) t v
-          ∙ opened (one-by (headLane (begun .pending)) (ahead (begun .pending)) c (sym (ap (λ (y : Pending). found (head y)) e) ∙ q) (still-blocked ∙ n))
+        -- `z` has the chunk filed
+        pub send-one : (c : Chunk) → found (head (x .pending)) ≡ Found.One c → blocked (head (s .pending)) n (s .flight .entries) ≡ false
+            → {z : Sender} {i m : ℕ} {sent : Chunk} → sent ≡ sentAt now c → m ≡ n → z ≡ withFlight (filed m sent (y .flight)) y → i ≡ nextTsn s
+            → record { after = z; says = Sent.Yielded i sent } ≡ leanSend room now s
+        send-one c q w {i = i} {sent} v u f k =
+            let g : y ≡ withPending (popped (begun .pending)) begun = t ∙ ap (λ (o : Sender). withPending (popped (o .pending)) o) e in
+            ap (λ (o : Sender). record { after = o; says = Sent.Yielded i sent })
+            (f ∙ ap (λ (j : ℕ). withFlight (filed j sent (y .flight)) y) (u ∙ sym r) ∙ ap (λ (o : Sender). withFlight (filed (room .flight) sent (o .flight)) o) g)
+            ∙ ap₂ (λ (j : ℕ) (d : Chunk). record { after = withFlight (filed (room .flight) d (s .flight)) (withPending (popped (begun .pending)) begun); says = Sent.Yielded j d }) k v
+            ∙ opened (one-by (headLane (begun .pending)) (ahead (begun .pending)) c (sym (ap (λ (o : Sender). found (head (o .pending))) e) ∙ q) (still-blocked ∙ w))

@@ -7,17 +7,12 @@ use model::Done;
 use model::Found;
 use model::Sent;
 use outbound_queue::OutboundQueue;
-use payload_queue::PayloadQueue;
-use pending_queue::PendingQueue;
 ghost use mathlib.Core.Path.{_≡_};
 ghost use mathlib.Core.List.{List};
-ghost use Prim.Native.Nat.{ℕ, suc};
-ghost use lib.ListN.{length};
-ghost use lib.Dec.{leb};
+ghost use Rattle.limits.specs.Limits.{Room};
+ghost use Rattle.model.specs.declared.Stream.{Stream};
 ghost use Rattle.model.specs.Rings.{head, startLifetimes, sentAt, send};
-ghost use Rattle.cells.specs.Slots.{roomOf};
-ghost use Rattle.payload_queue.specs.Queue.{flightOf};
-ghost use Rattle.outbound_queue.specs.Outbound.{senderOf, roomIn, Counted, Does};
+ghost use Rattle.outbound_queue.specs.Outbound.{ringsIn, ringRoom, waiting, flying, senderOf, Counted, Does};
 ghost use Rattle.outbound_send.specs.Lean.{leanStart, leanSend};
 ghost use Rattle.outbound_send.specs.Sends.{blocked};
 
@@ -31,26 +26,9 @@ pub struct Sending {
     pub answer: Sent,
 }
 
-// The queue with other parts, and every message seen.
-fn seen(q: OutboundQueue, pending: PendingQueue, inflight: PayloadQueue) -> OutboundQueue
-    ensures { λ r. ⌜ r ≡ record { pending = pending; inflight = inflight; «next_message_id» = q .«next_message_id»; «next_unstarted_message_id» = q .«next_message_id» } ⌝ }
-{
-    OutboundQueue {
-        pending: pending,
-        inflight: inflight,
-        next_message_id: q.next_message_id,
-        next_unstarted_message_id: q.next_message_id,
-    }
-}
-
-// Starts the lifetimes of the messages not yet seen. The rings are in the order of the message numbers, so these stand at their ends.
-pub fn start_timed_messages(
-    q: OutboundQueue,
-    unordered: &mut [u64],
-    ordered: &mut [u64],
-    clock: u64,
-) -> Started
-    ensures { λ r. ⌜ ((f : List ℕ) → Does (roomIn f) (senderOf q (now (unordered .entry)) (now (ordered .entry)) f) (record { after = senderOf (r .queue) (now (unordered .exit)) (now (ordered .exit)) f; says = r .answer }) (leanStart clock (senderOf q (now (unordered .entry)) (now (ordered .entry)) f)) (startLifetimes clock (senderOf q (now (unordered .entry)) (now (ordered .entry)) f)) × (Counted q (now (unordered .entry)) (now (ordered .entry)) f → Counted (r .queue) (now (unordered .exit)) (now (ordered .exit)) f)) ⌝ }
+// Starts the lifetimes of the messages not yet seen.
+pub fn start_timed_messages(q: OutboundQueue, cells: &mut [u64], clock: u64) -> Started
+    ensures { λ r. ⌜ ((room : Room) (ts : List Stream) → Does room (senderOf ts q (now (cells .entry))) (record { after = senderOf ts (r .queue) (now (cells .exit)); says = r .answer }) (leanStart clock (senderOf ts q (now (cells .entry)))) (startLifetimes clock (senderOf ts q (now (cells .entry))))) × (Counted q (now (cells .entry)) → Counted (r .queue) (now (cells .exit))) ⌝ }
 {
     if limits::CLOCK_MAX < clock {
         return Started {
@@ -58,9 +36,7 @@ pub fn start_timed_messages(
             answer: Done::Refused(limits::BEYOND_LIMIT),
         };
     }
-    let first = q.next_unstarted_message_id;
-    pending_queue::start_timed_messages(q.pending, unordered, ordered, clock, first);
-    let after = seen(q, q.pending, q.inflight);
+    let after = outbound_steps::start_rings(q, cells, clock);
     Started {
         queue: after,
         answer: Done::Done,
@@ -86,33 +62,20 @@ fn stamp(chunk: Chunk, clock: u64) -> Chunk
     }
 }
 
-// Whether the flight has room for no more than a terminator.
-fn is_full(inflight: PayloadQueue, flight: &[u64]) -> bool
-    ensures { λ r. ⌜ r ≡ leb (roomOf (now (flight .entry))) (suc (length (flightOf inflight (now (flight .entry)) .entries))) ⌝ }
-{
-    cells::room(flight) <= payload_queue::len(inflight, flight) + 1
-}
-
 // Whether there is a chunk to send, and no room for it.
-fn is_blocked(q: OutboundQueue, unordered: &[u64], ordered: &[u64], flight: &[u64]) -> bool
-    ensures { λ r. ⌜ r ≡ blocked (head (senderOf q (now (unordered .entry)) (now (ordered .entry)) (now (flight .entry)) .pending)) (roomIn (now (flight .entry))) (senderOf q (now (unordered .entry)) (now (ordered .entry)) (now (flight .entry))) ⌝ }
+fn is_blocked(q: OutboundQueue, cells: &[u64]) -> bool
+    ensures { λ r. ⌜ r ≡ blocked (head (waiting q (ringsIn (now (cells .entry))))) (ringRoom (now (cells .entry))) (flying q (ringsIn (now (cells .entry))) .entries) ⌝ }
 {
-    let front = pending_queue::peek(q.pending, unordered, ordered);
+    let front = outbound_queue::peek_pending(q, cells);
     let Found::One(_) = front else {
         return false;
     };
-    is_full(q.inflight, flight)
+    outbound_steps::is_full(q, cells)
 }
 
 // The head goes to the flight, with lifetimes started. What is refused is refused before the first store.
-pub fn send_next(
-    q: OutboundQueue,
-    unordered: &mut [u64],
-    ordered: &mut [u64],
-    flight: &mut [u64],
-    clock: u64,
-) -> Sending
-    ensures { λ r. ⌜ Does (roomIn (now (flight .entry))) (senderOf q (now (unordered .entry)) (now (ordered .entry)) (now (flight .entry))) (record { after = senderOf (r .queue) (now (unordered .exit)) (now (ordered .exit)) (now (flight .exit)); says = r .answer }) (leanSend (roomIn (now (flight .entry))) clock (senderOf q (now (unordered .entry)) (now (ordered .entry)) (now (flight .entry)))) (send (roomIn (now (flight .entry))) clock (senderOf q (now (unordered .entry)) (now (ordered .entry)) (now (flight .entry)))) × (Counted q (now (unordered .entry)) (now (ordered .entry)) (now (flight .entry)) → Counted (r .queue) (now (unordered .exit)) (now (ordered .exit)) (now (flight .exit))) ⌝ }
+pub fn send_next(q: OutboundQueue, cells: &mut [u64], clock: u64) -> Sending
+    ensures { λ r. ⌜ ((room : Room) (ts : List Stream) → room .flight ≡ ringRoom (now (cells .entry)) → Does room (senderOf ts q (now (cells .entry))) (record { after = senderOf ts (r .queue) (now (cells .exit)); says = r .answer }) (leanSend room clock (senderOf ts q (now (cells .entry)))) (send room clock (senderOf ts q (now (cells .entry))))) × (Counted q (now (cells .entry)) → Counted (r .queue) (now (cells .exit))) ⌝ }
 {
     if limits::CLOCK_MAX < clock {
         return Sending {
@@ -120,27 +83,25 @@ pub fn send_next(
             answer: Sent::Refused(limits::BEYOND_LIMIT),
         };
     }
-    if is_blocked(q, unordered, ordered, flight) {
+    if is_blocked(q, cells) {
         return Sending {
             queue: q,
             answer: Sent::Refused(limits::FLIGHT_FULL),
         };
     }
-    let tsn = payload_queue::next_tsn(q.inflight, flight);
-    let first = q.next_unstarted_message_id;
-    pending_queue::start_timed_messages(q.pending, unordered, ordered, clock, first);
-    let taken = pending_queue::pop(q.pending, unordered, ordered);
+    let tsn = outbound_queue::next_tsn(q, cells);
+    let started = outbound_steps::start_rings(q, cells, clock);
+    let taken = outbound_steps::take_head(started, cells);
+    let rest = taken.queue;
     let front = taken.front;
     let Found::One(chunk) = front else {
-        let after = seen(q, taken.queue, q.inflight);
         return Sending {
-            queue: after,
+            queue: rest,
             answer: Sent::Nothing,
         };
     };
     let sent = stamp(chunk, clock);
-    let longer = payload_queue::push(q.inflight, flight, sent);
-    let after = seen(q, taken.queue, longer);
+    let after = outbound_steps::file(rest, cells, sent);
     Sending {
         queue: after,
         answer: Sent::Yielded(tsn, sent),

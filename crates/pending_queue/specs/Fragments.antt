@@ -2,7 +2,7 @@
 use mathlib.Core.Path.{_≡_, refl, sym, ap, ap₂, _∙_}
 use mathlib.Core.Bool.{Bool, true, false, _&&_}
 use mathlib.Core.List.{List, [], _∷_, _++_, append-nil}
-use Prim.Native.Nat.{ℕ, zero, suc, _+_, _-_, _*_, _≤_, _<_}
+use Prim.Native.Nat.{ℕ, zero, suc, _+_, _-_, _*_, _%_, _^_, _≤_, _<_}
 use native.Mathlib.Nat.{suc-mul, div-zero, div-add-mod', mod-lt}
 use native.Mathlib.Omega.{arith}
 use lib.ListN.{length}
@@ -11,15 +11,14 @@ use lib.Dec.{leb, eqb}
 use borrow.Author.Tests.{le-leb, lt-leb, leb-true, ne-eqb}
 use Rattle.limits.specs.Limits.{offsetMax}
 use Rattle.model.specs.declared.Chunk.{Chunk}
-use Rattle.model.specs.declared.Lane.{Lane}
-use Rattle.model.specs.declared.Lane.the-variants.{Unordered, Ordered}
 use Rattle.model.specs.declared.Message.{Message}
 use Rattle.model.specs.Lists.{if_then_else_}
 use Rattle.model.specs.State.{Pending, at, laneOf, withRing}
 use Rattle.model.specs.Messages.{pieces, piece, cut}
 use Rattle.model.specs.Rings.{bytes}
-use Rattle.cells.specs.Slots.{roomOf}
 use Rattle.ring.specs.Sums.{bytes-append}
+use Rattle.pending_queue.specs.declared.Added.{Added}
+use Rattle.pending_queue.specs.declared.PendingQueue.{PendingQueue}
 
 -- the offset is within its limit, and the ring has room for all fragments
 abbrev pub fits : (room maximum offset length : ℕ) → List Chunk → Bool
@@ -29,21 +28,31 @@ fits room m o n l = leb o offsetMax && leb (length l + pieces n m) room
 abbrev pub added : (room : ℕ) → Message → (maximum offset length : ℕ) → List Chunk → List Chunk
 added room x m o n l = if fits room m o n l then l ++ cut x true (pieces n m) m o n else l
 
--- how many chunks the cells of a ring have room for
-abbrev pub roomFor : Lane → (unordered ordered : List ℕ) → ℕ
-roomFor Unordered u o = roomOf u
-roomFor Ordered u o = roomOf o
-
--- whether a message's fragments are added
-abbrev pub fitsIn : (unordered ordered : List ℕ) → Message → (maximum offset length : ℕ) → Pending → Bool
-fitsIn u o x m off n p = fits (roomFor (laneOf (x .unordered)) u o) m off n (at (laneOf (x .unordered)) p)
+-- whether a message's fragments are added, where each ring has this room
+abbrev pub fitsIn : (room : ℕ) → Message → (maximum offset length : ℕ) → Pending → Bool
+fitsIn room x m off n p = fits room m off n (at (laneOf (x .unordered)) p)
 
 -- what is pending then
-abbrev pub withFragments : (unordered ordered : List ℕ) → Message → (maximum offset length : ℕ) → Pending → Pending
-withFragments u o x m off n p =
-    withRing (laneOf (x .unordered)) (p .underWay) (added (roomFor (laneOf (x .unordered)) u o) x m off n (at (laneOf (x .unordered)) p)) p
+abbrev pub withFragments : (room : ℕ) → Message → (maximum offset length : ℕ) → Pending → Pending
+withFragments room x m off n p =
+    withRing (laneOf (x .unordered)) (p .underWay) (added room x m off n (at (laneOf (x .unordered)) p)) p
+
+-- the queue whose ring has them
+abbrev pub withAdded : (unordered : Bool) → Added → PendingQueue → PendingQueue
+withAdded true d q =
+    record { unordered = d .ring; ordered = q .ordered; bytes = (q .bytes + d .bytes) % 2 ^ 64; selected = q .selected; «unordered_is_selected» = q .«unordered_is_selected» }
+withAdded false d q =
+    record { unordered = q .unordered; ordered = d .ring; bytes = (q .bytes + d .bytes) % 2 ^ 64; selected = q .selected; «unordered_is_selected» = q .«unordered_is_selected» }
 
 -- ---- the cases of each
+
+-- `b` says which ring, and `k` are the bytes then
+module _ {b : Bool} {k : ℕ} (d : Added) (q : PendingQueue) (h : k ≡ (q .bytes + d .bytes) % 2 ^ 64) where
+  pub added-unordered : b ≡ true → record { unordered = d .ring; ordered = q .ordered; bytes = k; selected = q .selected; «unordered_is_selected» = q .«unordered_is_selected» } ≡ withAdded b d q
+  added-unordered e = (λ i. record { unordered = d .ring; ordered = q .ordered; bytes = h i; selected = q .selected; «unordered_is_selected» = q .«unordered_is_selected» }) ∙ ap (λ (t : Bool). withAdded t d q) (sym e)
+
+  pub added-ordered : b ≡ false → record { unordered = q .unordered; ordered = d .ring; bytes = k; selected = q .selected; «unordered_is_selected» = q .«unordered_is_selected» } ≡ withAdded b d q
+  added-ordered e = (λ i. record { unordered = q .unordered; ordered = d .ring; bytes = h i; selected = q .selected; «unordered_is_selected» = q .«unordered_is_selected» }) ∙ ap (λ (t : Bool). withAdded t d q) (sym e)
 
 module _ (room m o n : ℕ) (l : List Chunk) where
   pub fits-far : offsetMax < o → false ≡ fits room m o n l
@@ -70,23 +79,6 @@ module _ (room m o n : ℕ) (l : List Chunk) where
 
     pub added-all : fits room m o n l ≡ true → l ++ cut x true (pieces n m) m o n ≡ added room x m o n l
     added-all e = sym (ap (λ (b : Bool). if b then l ++ cut x true (pieces n m) m o n else l) e)
-
--- the ring of a message, as code finds it: `y` is that ring then, and `d` whether they were added
-module _ (p : Pending) (u o : List ℕ) (x : Message) (m off n : ℕ) (b : Bool) (e : x .unordered ≡ b) where
-  pub fragments-in : {y : List Chunk} → y ≡ added (roomFor (laneOf b) u o) x m off n (at (laneOf b) p) → withRing (laneOf b) (p .underWay) y p ≡ withFragments u o x m off n p
-  fragments-in q =
-      ap (λ (z : List Chunk). withRing (laneOf b) (p .underWay) z p) q
-      ∙ ap (λ (t : Bool). withRing (laneOf t) (p .underWay) (added (roomFor (laneOf t) u o) x m off n (at (laneOf t) p)) p) (sym e)
-
-  pub fits-in : {d : Bool} → d ≡ fits (roomFor (laneOf b) u o) m off n (at (laneOf b) p) → d ≡ fitsIn u o x m off n p
-  fits-in q = q ∙ ap (λ (t : Bool). fits (roomFor (laneOf t) u o) m off n (at (laneOf t) p)) (sym e)
-
--- where they fit, they stand at the end of their ring, as the model's write says
-pub fragments-all : (p : Pending) (u o : List ℕ) (x : Message) (m off n : ℕ) → fitsIn u o x m off n p ≡ true
-    → withFragments u o x m off n p ≡ withRing (laneOf (x .unordered)) (p .underWay) (at (laneOf (x .unordered)) p ++ cut x true (pieces n m) m off n) p
-fragments-all p u o x m off n e =
-    let l = laneOf (x .unordered) in
-    ap (λ (y : List Chunk). withRing l (p .underWay) y p) (sym (added-all (roomFor l u o) m off n (at l p) x e))
 
 -- ---- the loop that adds them: k are to come, from the offset o on, of the n bytes that are left
 

@@ -13,7 +13,7 @@ ghost use Prim.Native.Nat.{ℕ, _+_, _-_, _≤_, min};
 ghost use lib.ListN.{length};
 ghost use Rattle.limits.specs.Limits.{clockMax};
 ghost use Rattle.model.specs.Lists.{some-of, last};
-ghost use Rattle.model.specs.State.{laneOf, inRings, isOf};
+ghost use Rattle.model.specs.State.{laneOf, isOf};
 ghost use Rattle.model.specs.Messages.{pieces, piece, cut};
 ghost use Rattle.model.specs.Rings.{laneAhead, head, lowered, ended, bytes};
 ghost use Rattle.model.specs.Flight.{found, hasStream};
@@ -22,7 +22,7 @@ ghost use Rattle.rows.specs.Walks.{takeWhile};
 ghost use Rattle.cells.specs.Slots.{roomOf};
 ghost use Rattle.ring.specs.Held.{held};
 ghost use Rattle.pending_queue.specs.Queue.{underWayOf, noPending, pendingIn, Counted};
-ghost use Rattle.pending_queue.specs.Fragments.{sizeOf, bytesOf, fits, added, fitsIn, withFragments};
+ghost use Rattle.pending_queue.specs.Fragments.{sizeOf, bytesOf, fits, added, withAdded};
 ghost use Rattle.pending_queue.specs.Fronts.{popped};
 ghost use Rattle.pending_queue.specs.Lifetimes.{startedEnd};
 ghost use Rattle.pending_queue.specs.Runs.{laterOf, runs, withoutRuns};
@@ -36,8 +36,10 @@ pub struct PendingQueue {
     pub unordered_is_selected: bool,
 }
 
-pub struct Pushed {
-    pub queue: PendingQueue,
+// The ring with a message's fragments, the bytes that they bring, and whether there was room.
+pub struct Added {
+    pub ring: Ring,
+    pub bytes: u64,
     pub done: bool,
 }
 
@@ -225,14 +227,9 @@ fn cut_into(
     longer
 }
 
-struct Added {
-    ring: Ring,
-    bytes: u64,
-    done: bool,
-}
-
-// The fragments at the end of a ring, and the bytes that they bring.
-fn add_fragments(
+// A message's fragments join the back of a ring. Where there is no room for all of them, or the offset is beyond its limit, nothing
+// changes: the caller has refused such a message before.
+pub fn push_fragments(
     ring: Ring,
     cells: &mut [u64],
     message: Message,
@@ -257,53 +254,37 @@ fn add_fragments(
     }
 }
 
-// A message's fragments join the back of its ring. Where there is no room for all of them, or the offset is beyond its limit, nothing
-// changes: the caller has refused such a message before.
-pub fn push_fragments(
-    queue: PendingQueue,
-    unordered: &mut [u64],
-    ordered: &mut [u64],
-    message: Message,
-    maximum: u16,
-    offset: u64,
-    length: u32,
-) -> Pushed
-    ensures { λ r. ⌜ (pendingIn (r .queue) (now (unordered .exit)) (now (ordered .exit)) ≡ withFragments (now (unordered .entry)) (now (ordered .entry)) message maximum offset length (pendingIn queue (now (unordered .entry)) (now (ordered .entry)))) × (r .done ≡ fitsIn (now (unordered .entry)) (now (ordered .entry)) message maximum offset length (pendingIn queue (now (unordered .entry)) (now (ordered .entry)))) × (Counted queue (now (unordered .entry)) (now (ordered .entry)) → Counted (r .queue) (now (unordered .exit)) (now (ordered .exit))) ⌝ }
+// The queue once fragments have joined one of its rings.
+pub fn with_fragments(queue: PendingQueue, unordered: bool, added: Added) -> PendingQueue
+    ensures { λ r. ⌜ r ≡ withAdded unordered added queue ⌝ }
 {
+    let bytes = std::num::wrapping_add_u64(queue.bytes, added.bytes);
+    let longer = added.ring;
     let unordered_ring = queue.unordered;
     let ordered_ring = queue.ordered;
-    if message.unordered {
-        let result = add_fragments(unordered_ring, unordered, message, maximum, offset, length);
-        let longer = result.ring;
-        return Pushed {
-            queue: PendingQueue {
-                unordered: longer,
-                ordered: ordered_ring,
-                bytes: std::num::wrapping_add_u64(queue.bytes, result.bytes),
-                selected: queue.selected,
-                unordered_is_selected: queue.unordered_is_selected,
-            },
-            done: result.done,
-        };
-    }
-    let result = add_fragments(ordered_ring, ordered, message, maximum, offset, length);
-    let longer = result.ring;
-    Pushed {
-        queue: PendingQueue {
-            unordered: unordered_ring,
-            ordered: longer,
-            bytes: std::num::wrapping_add_u64(queue.bytes, result.bytes),
+    if unordered {
+        return PendingQueue {
+            unordered: longer,
+            ordered: ordered_ring,
+            bytes: bytes,
             selected: queue.selected,
             unordered_is_selected: queue.unordered_is_selected,
-        },
-        done: result.done,
+        };
+    }
+    PendingQueue {
+        unordered: unordered_ring,
+        ordered: longer,
+        bytes: bytes,
+        selected: queue.selected,
+        unordered_is_selected: queue.unordered_is_selected,
     }
 }
 
 // ---- lifetimes
 
-// From the back of a ring to the first chunk of a message that was seen.
-fn start_end(ring: Ring, cells: &mut [u64], clock: u64, first: u64)
+// Starts the lifetimes of a ring's messages not yet seen, whose numbers are `first` and up: from the back to the first chunk of a message
+// that was seen, since a ring is in the order of the numbers. A clock beyond its limit is taken as the limit.
+pub fn start_timed_messages(ring: Ring, cells: &mut [u64], clock: u64, first: u64)
     ensures { λ _. ⌜ held ring (now (cells .exit)) ≡ startedEnd (min clock clockMax) first (held ring (now (cells .entry))) ⌝ }
 {
     let mut i = ring::count(ring, cells);
@@ -315,21 +296,6 @@ fn start_end(ring: Ring, cells: &mut [u64], clock: u64, first: u64)
         i -= 1;
         ring::start_nth(ring, cells, i, clock, first);
     }
-}
-
-// Starts the lifetimes of the messages not yet seen, whose numbers are `first` and up: the rings are in the order of these, so the
-// others stand before them. A clock beyond its limit is taken as the limit.
-pub fn start_timed_messages(
-    queue: PendingQueue,
-    unordered: &mut [u64],
-    ordered: &mut [u64],
-    clock: u64,
-    first: u64,
-)
-    ensures { λ _. ⌜ (pendingIn queue (now (unordered .exit)) (now (ordered .exit)) ≡ inRings (startedEnd (min clock clockMax) first) (pendingIn queue (now (unordered .entry)) (now (ordered .entry)))) × (Counted queue (now (unordered .entry)) (now (ordered .entry)) → Counted queue (now (unordered .exit)) (now (ordered .exit))) ⌝ }
-{
-    start_end(queue.unordered, unordered, clock, first);
-    start_end(queue.ordered, ordered, clock, first);
 }
 
 // ---- a message leaves

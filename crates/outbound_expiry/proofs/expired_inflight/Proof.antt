@@ -2,7 +2,6 @@
 use mathlib.Core.Path.{ap}
 use denote.Ref.{now}
 use lib.ListN.{length}
-use Rattle.model.specs.Rings.{Listing}
 use Rattle.outbound_queue.specs.Outbound.{senderOf, does}
 use Rattle.outbound_expiry.specs.Lean.{listedIn}
 use Rattle.outbound_expiry.specs.Listings.{lean-list, list-late, list-is}
@@ -12,12 +11,36 @@ use Rattle.outbound_expiry.proofs.expired_inflight.Tie as tie
 
 returns : tie.Need-returns
 returns c =
-    let a = c .before .before .before .before .before .args in
-    let s = senderOf (a .q) (now (a .unordered)) (now (a .ordered)) (now (a .flight)) in
-    does (λ g. ap (listedIn (now (a .out))) (lean-list (a .clock) (length (now (a .out))) g)) (list-late (a .clock) s (now (a .out)) (c .if1 .taken))
+    let a = c .before .before .before .args in
+    let o = now (a .out) in
+    λ room ts. does (λ g. ap (listedIn o) (lean-list (a .clock) (length o) g)) (list-late (a .clock) (senderOf ts (a .q) (now (a .cells))) o (c .if1 .taken))
 
 under-way-requires : tie.Need-under-way-requires
 under-way-requires c κs = search needs
+
+mul-k : tie.Need-mul-k
+mul-k c = search needs
+
+add-expired : tie.Need-add-expired
+add-expired c = search needs
+
+add-expired-2 : tie.Need-add-expired-2
+add-expired-2 c = search needs
+
+add-expired-3 : tie.Need-add-expired-3
+add-expired-3 c = search needs
+
+mul-expired : tie.Need-mul-expired
+mul-expired c = search needs
+
+sub-expired : tie.Need-sub-expired
+sub-expired c = search needs
+
+part-expired-start : tie.Need-part-expired-start
+part-expired-start c = search needs
+
+part-expired-end : tie.Need-part-expired-end
+part-expired-end c = search needs
 
 expired-requires : tie.Need-expired-requires
 expired-requires c κs = search needs
@@ -27,13 +50,27 @@ same-length c = search needs
 
 returns-2 : tie.Need-returns-2
 returns-2 c =
-    let a = c .before .before .before .before .before .before .before .before .before .before .args in
-    let s = senderOf (a .q) (now (a .unordered)) (now (a .ordered)) (now (a .flight)) in
-    let w = c .before .before .before .before .under-way in
+    let a = c .before .before .before .before .before .before .before .before .before .args in
+    let o = now (a .out) in
+    let w = c .before .before .before .before .before .under-way in
     let e = c .before .before .expired .ensures in
-    does (λ g. ap (listedIn (now (a .out))) (lean-list (a .clock) (length (now (a .out))) g))
-    (list-is (a .clock) s (now (a .out)) (c .before .before .before .before .before .if1 .left) (w .result) (w .ensures) (e .0) (e .1))
+    λ room ts.
+    does (λ g. ap (listedIn o) (lean-list (a .clock) (length o) g)) (list-is (a .clock) (senderOf ts (a .q) (now (a .cells))) o (c .before .before .before .before .before .before .if1 .left) (w .result) (w .ensures) (e .0) (e .1))
 
 pub expired-inflight-spec : {M : Type 1} → statement M
 expired-inflight-spec =
-    tie.close (tie.spec returns under-way-requires expired-requires same-length returns-2)
+    tie.close
+    (tie.spec
+    returns
+    under-way-requires
+    mul-k
+    add-expired
+    add-expired-2
+    add-expired-3
+    mul-expired
+    sub-expired
+    part-expired-start
+    part-expired-end
+    expired-requires
+    same-length
+    returns-2)

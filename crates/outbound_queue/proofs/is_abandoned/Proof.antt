@@ -2,7 +2,7 @@
 use mathlib.Core.Path.{sym, _∙_}
 use denote.Ref.{now}
 use Rattle.model.specs.State.{inFlight}
-use Rattle.payload_queue.specs.Queue.{flightOf}
+use Rattle.outbound_queue.specs.Outbound.{ringsIn, flying}
 use Rattle.outbound_queue.specs.Asked.{unknown-is, known-is}
 use borrow.Author.Needs.{needs}
 use Rattle.outbound_queue.proofs.is_abandoned.Statement.{statement}
@@ -20,12 +20,13 @@ enum-told c = search needs
 returns : tie.Need-returns
 returns c =
     let a = c .before .before .before .before .args in
-    λ u o. unknown-is (inFlight (a .tsn) (flightOf (a .q .inflight) (now (a .flight)))) (sym (c .before .before .get .ensures) ∙ c .enum-told .given .1)
+    unknown-is (inFlight (a .tsn) (flying (a .q) (ringsIn (now (a .cells))))) (sym (c .before .before .get .ensures) ∙ c .enum-told .given .1)
 
 returns-2 : tie.Need-returns-2
 returns-2 c =
     let a = c .before .before .before .before .before .args in
-    λ u o. known-is (inFlight (a .tsn) (flightOf (a .q .inflight) (now (a .flight)))) (c .before .entry .given .0 .0) (sym (c .before .before .before .get .ensures) ∙ c .before .entry .given .1)
+    let x = c .before .entry .given in
+    known-is (inFlight (a .tsn) (flying (a .q) (ringsIn (now (a .cells))))) (x .0 .0) (sym (c .before .before .before .get .ensures) ∙ x .1)
 
 pub is-abandoned-spec : {M : Type 1} → statement M
 is-abandoned-spec = tie.close (tie.spec get-requires enum-known-entry enum-told returns returns-2)

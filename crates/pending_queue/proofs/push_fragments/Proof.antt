@@ -1,66 +1,59 @@
--- One ring gets the fragments, by the message's order, and the counter their bytes.
-use mathlib.Core.Bool.{true, false}
+-- As they were where they do not fit, and else with all fragments, whose bytes are the message's.
+use mathlib.Core.Path.{_∙_, sym, ap}
+use Prim.Native.Nat.{ℕ, _+_}
 use native.Mathlib.Omega.{arith}
 use denote.Ref.{now}
-use Rattle.pending_queue.specs.Queue.{pendingIn, counted-more}
-use Rattle.pending_queue.specs.Fragments.{fragments-in, fits-in}
+use borrow.Author.Tests.{not-true, not-false}
+use Rattle.model.specs.Rings.{bytes}
+use Rattle.cells.specs.Slots.{roomOf}
+use Rattle.ring.specs.Held.{held}
+use Rattle.pending_queue.specs.Fragments.{added-none, added-all, added-bytes}
 use borrow.Author.Needs.{needs}
 use Rattle.pending_queue.proofs.push_fragments.Statement.{statement}
 use Rattle.pending_queue.proofs.push_fragments.Tie as tie
 
-add-fragments-requires : tie.Need-add-fragments-requires
-add-fragments-requires c κs = search needs
-
-wrapping-add-u64-requires : tie.Need-wrapping-add-u64-requires
-wrapping-add-u64-requires c κs = search needs
+fitting-requires : tie.Need-fitting-requires
+fitting-requires c κs = search needs
 
 same-length : tie.Need-same-length
 same-length c = search needs
 
 returns : tie.Need-returns
 returns c =
-    let a = c .before .before .before .before .before .before .before .before .before .before .before .args in
-    let u = now (a .unordered) in
-    let o = now (a .ordered) in
-    let p = pendingIn (a .queue) u o in
-    let t = c .before .before .before .before .add-fragments in
-    let e = c .before .before .before .before .before .before .if1 .taken in (
-      fragments-in p u o (a .message) (a .maximum) (a .offset) (a .length) true e (t .ensures .0),
-      fits-in p u o (a .message) (a .maximum) (a .offset) (a .length) true e (t .ensures .1),
-      counted-more (a .queue) u o (t .result .ring) (a .queue .ordered) (t .last .1 .0) o (t .result .bytes) (omega (arith, t .ensures .2)) (c .wrapping-add-u64 .ensures),
-    )
+    let a = c .before .before .before .before .args in
+    let f = c .before .fitting in
+    let e = not-true (f .result) (c .if1 .taken) in
+    (added-none (roomOf (now (a .cells))) (a .maximum) (a .offset) (a .length) (held (a .ring) (now (a .cells))) (a .message) (sym (f .ensures) ∙ e), sym e ∙ f .ensures, omega arith)
 
-add-fragments-requires-2 : tie.Need-add-fragments-requires-2
-add-fragments-requires-2 c κs = search needs
+cut-into-requires : tie.Need-cut-into-requires
+cut-into-requires c κs = sym (c .before .before .fitting .ensures) ∙ not-false (c .before .before .fitting .result) (c .before .if1 .left)
 
-wrapping-add-u64-requires-2 : tie.Need-wrapping-add-u64-requires-2
-wrapping-add-u64-requires-2 c κs = search needs
+fragments-bytes-requires : tie.Need-fragments-bytes-requires
+fragments-bytes-requires c κs = search needs
 
 same-length-2 : tie.Need-same-length-2
 same-length-2 c = search needs
 
 returns-2 : tie.Need-returns-2
 returns-2 c =
-    let a = c .before .before .before .before .before .before .before .before .before .before .before .args in
-    let u = now (a .unordered) in
-    let o = now (a .ordered) in
-    let p = pendingIn (a .queue) u o in
-    let t = c .before .before .before .before .add-fragments2 in
-    let e = c .before .before .before .before .before .before .if1 .left in (
-      fragments-in p u o (a .message) (a .maximum) (a .offset) (a .length) false e (t .ensures .0),
-      fits-in p u o (a .message) (a .maximum) (a .offset) (a .length) false e (t .ensures .1),
-      counted-more (a .queue) u o (a .queue .unordered) (t .result .ring) u (t .last .1 .0) (t .result .bytes) (omega (arith, t .ensures .2)) (c .wrapping-add-u642 .ensures),
+    let a = c .before .before .before .before .before .before .before .before .before .args in
+    let f = c .before .before .before .before .before .before .fitting in
+    let e = not-false (f .result) (c .before .before .before .before .before .if1 .left) in
+    let l = held (a .ring) (now (a .cells)) in
+    let t = c .before .before .before .cut-into .ensures in (
+      t ∙ added-all (roomOf (now (a .cells))) (a .maximum) (a .offset) (a .length) l (a .message) (sym (f .ensures) ∙ e),
+      sym e ∙ f .ensures,
+      ap bytes t ∙ added-bytes (a .message) (a .maximum) (a .offset) (a .length) l ∙ ap (λ (n : ℕ). bytes l + n) (sym (c .fragments-bytes .ensures)),
     )
 
 pub push-fragments-spec : {M : Type 1} → statement M
 push-fragments-spec =
     tie.close
     (tie.spec
-    add-fragments-requires
-    wrapping-add-u64-requires
+    fitting-requires
     same-length
     returns
-    add-fragments-requires-2
-    wrapping-add-u64-requires-2
+    cut-into-requires
+    fragments-bytes-requires
     same-length-2
     returns-2)

@@ -1,0 +1,2 @@
+-- Steps: what each step comes to, of a sender that is a variable.
+pub mod Steps
