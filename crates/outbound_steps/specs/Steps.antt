@@ -68,9 +68,11 @@ module _ (q : OutboundQueue) (r : Rings) (x : Message) (m off l : ℕ) {room n :
         h ∙ ap (λ (k : ℕ). fits k m off l (y .unordered)) same ∙ ap (λ (t : Bool). fits room m off l (at (laneOf t) y)) (sym e)
 
     pub counted-unordered : bytes (held (d .ring) w) ≡ bytes (held (q .pending .unordered) (r .unordered)) + d .bytes → CountedIn q r → CountedIn (remade p (q .inflight) q) (record { unordered = w; ordered = r .ordered; flight = r .flight })
-    counted-unordered h k =
-        (subst (λ (y : PendingQueue). y .bytes ≡ bytes (held (y .unordered) w) + bytes (held (y .ordered) (r .ordered))) (sym f)
-        (counted-more (q .pending) (r .unordered) (r .ordered) (d .ring) (q .pending .ordered) w (r .ordered) (d .bytes) (omega (arith, h)) refl (k .0)), k .1)
+    counted-unordered h k = (
+      subst (λ (y : PendingQueue). y .bytes ≡ bytes (held (y .unordered) w) + bytes (held (y .ordered) (r .ordered))) (sym f)
+          (counted-more (q .pending) (r .unordered) (r .ordered) (d .ring) (q .pending .ordered) w (r .ordered) (d .bytes) (omega (arith, h)) refl (k .0)),
+      k .1,
+    )
 
   module _ (w : List ℕ) {p : PendingQueue} (e : x .unordered ≡ false) (f : p ≡ withAdded false d (q .pending)) (a : held (d .ring) w ≡ added n x m off l (held (q .pending .ordered) (r .ordered))) where
     pub joined-ordered : (ts : List Stream) → senderIn ts (remade p (q .inflight) q) (record { unordered = r .unordered; ordered = w; flight = r .flight }) ≡ withPending (withFragments room x m off l (senderIn ts q r .pending)) (senderIn ts q r)
@@ -86,6 +88,8 @@ module _ (q : OutboundQueue) (r : Rings) (x : Message) (m off l : ℕ) {room n :
         h ∙ ap (λ (k : ℕ). fits k m off l (y .ordered)) same ∙ ap (λ (t : Bool). fits room m off l (at (laneOf t) y)) (sym e)
 
     pub counted-ordered : bytes (held (d .ring) w) ≡ bytes (held (q .pending .ordered) (r .ordered)) + d .bytes → CountedIn q r → CountedIn (remade p (q .inflight) q) (record { unordered = r .unordered; ordered = w; flight = r .flight })
-    counted-ordered h k =
-        (subst (λ (y : PendingQueue). y .bytes ≡ bytes (held (y .unordered) (r .unordered)) + bytes (held (y .ordered) w)) (sym f)
-        (counted-more (q .pending) (r .unordered) (r .ordered) (q .pending .unordered) (d .ring) (r .unordered) w (d .bytes) (omega (arith, h)) refl (k .0)), k .1)
+    counted-ordered h k = (
+      subst (λ (y : PendingQueue). y .bytes ≡ bytes (held (y .unordered) (r .unordered)) + bytes (held (y .ordered) w)) (sym f)
+          (counted-more (q .pending) (r .unordered) (r .ordered) (q .pending .unordered) (d .ring) (r .unordered) w (d .bytes) (omega (arith, h)) refl (k .0)),
+      k .1,
+    )

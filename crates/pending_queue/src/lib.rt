@@ -135,7 +135,7 @@ pub fn pop(queue: PendingQueue, unordered: &[u64], ordered: &[u64]) -> Popped
 // ---- a message in fragments
 
 // How many there are: none where the maximum is 0.
-fn fragments(length: u32, maximum: u16) -> usize
+pub fn fragments(length: u32, maximum: u16) -> usize
     ensures { λ r. ⌜ (r ≡ pieces length maximum) × (r ≤ 4295032829) ⌝ }
 {
     if maximum == 0 {
