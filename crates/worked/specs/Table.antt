@@ -12,7 +12,7 @@ use Rattle.limits.specs.declared.Moment.the-variants.{Absent, At}
 use Rattle.timer.specs.declared.Timer.the-variants.{T3RTX}
 use Rattle.timer.specs.declared.Maximum.the-variants.{Unlimited}
 use Rattle.timer.specs.Calls.{getOf, newOf}
-use Rattle.timer.specs.Claims as Timers
+use Rattle.timer_claims.specs.Claims as Timers
 use Rattle.rto.specs.Rto.{f64, fresh as estimator}
 use Rattle.rto.specs.Calls as Rto
 use Rattle.model.specs.declared.Released.{Released}
