@@ -5,7 +5,7 @@ ghost use mathlib.Core.Path.{_≡_};
 ghost use lib.ListN.{length, set};
 ghost use lib.Dec.{ltb};
 ghost use Rattle.cells.specs.Slots.{roomOf};
-ghost use Rattle.stream.specs.Tables.{tableOf, sought, joined};
+ghost use Rattle.stream_table.specs.Tables.{tableOf, sought, joined};
 
 // Where a stream stands, and the stream.
 pub enum Place {

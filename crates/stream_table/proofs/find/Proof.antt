@@ -3,9 +3,9 @@ use native.Mathlib.Omega.{arith}
 use Prim.Native.Nat.{_-_, _≤_}
 use denote.Ref.{now}
 use borrow.Author.Needs.{needs}
-use Rattle.stream.specs.Tables.{tableOf, Seeking, seek-start, seek-none, seek-hit, seek-miss}
-use Rattle.stream.proofs.table.find.Statement.{statement}
-use Rattle.stream.proofs.table.find.Tie as tie
+use Rattle.stream_table.specs.Tables.{tableOf, Seeking, seek-start, seek-none, seek-hit, seek-miss}
+use Rattle.stream_table.proofs.find.Statement.{statement}
+use Rattle.stream_table.proofs.find.Tie as tie
 
 abbrev Inv-loop : tie.InvT-loop
 Inv-loop count cells identifier n i₀ i = (i ≤ n) × Seeking identifier (tableOf count cells) i

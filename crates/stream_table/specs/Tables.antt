@@ -18,8 +18,8 @@ use Rattle.model.specs.Streams.{find, put}
 use Rattle.rows.specs.Turns.{read-turn, rest-none}
 use Rattle.cells.specs.Slots.{roomOf, length-slots}
 use Rattle.stream_slot.specs.Streams.{streamIn, streams, blankStream}
-use Rattle.stream.specs.declared.table.Place.{Place}
-use Rattle.stream.specs.declared.table.Place.the-variants.{At, Nothing}
+use Rattle.stream_table.specs.declared.Place.{Place}
+use Rattle.stream_table.specs.declared.Place.the-variants.{At, Nothing}
 
 -- the streams in the order of opening
 abbrev pub tableOf : (count : ℕ) → List ℕ → List Stream

@@ -1,10 +1,10 @@
 -- A count beyond the room reads as the room.
 use native.Mathlib.Omega.{arith}
 use denote.Ref.{now}
-use Rattle.stream.specs.Tables.{length-table}
+use Rattle.stream_table.specs.Tables.{length-table}
 use borrow.Author.Needs.{needs}
-use Rattle.stream.proofs.table.len.Statement.{statement}
-use Rattle.stream.proofs.table.len.Tie as tie
+use Rattle.stream_table.proofs.len.Statement.{statement}
+use Rattle.stream_table.proofs.len.Tie as tie
 
 room-requires : tie.Need-room-requires
 room-requires c κs = search needs

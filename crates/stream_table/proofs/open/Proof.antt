@@ -6,10 +6,10 @@ use denote.Ref.{now}
 use lib.ListN.{length}
 use borrow.Author.Tests.{lt-ltb, le-ltb}
 use Rattle.cells.specs.Slots.{roomOf}
-use Rattle.stream.specs.Tables.{tableOf, length-table, table-join, table-full}
+use Rattle.stream_table.specs.Tables.{tableOf, length-table, table-join, table-full}
 use borrow.Author.Needs.{needs}
-use Rattle.stream.proofs.table.open.Statement.{statement}
-use Rattle.stream.proofs.table.open.Tie as tie
+use Rattle.stream_table.proofs.open.Statement.{statement}
+use Rattle.stream_table.proofs.open.Tie as tie
 
 room-requires : tie.Need-room-requires
 room-requires c κs = search needs

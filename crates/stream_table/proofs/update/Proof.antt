@@ -1,10 +1,10 @@
 -- A slot below the count is written; past it the table has no such place.
 use native.Mathlib.Omega.{arith}
 use denote.Ref.{now}
-use Rattle.stream.specs.Tables.{table-set, table-past}
+use Rattle.stream_table.specs.Tables.{table-set, table-past}
 use borrow.Author.Needs.{needs}
-use Rattle.stream.proofs.table.update.Statement.{statement}
-use Rattle.stream.proofs.table.update.Tie as tie
+use Rattle.stream_table.proofs.update.Statement.{statement}
+use Rattle.stream_table.proofs.update.Tie as tie
 
 returns : tie.Need-returns
 returns c = let a = c .before .before .args in table-past (a .count) (now (a .cells)) (a .place) (a .stream) (omega arith)
