@@ -10,18 +10,19 @@ use lib.ListN as ListN
 use lib.Seq.{getD-set-same}
 use Rattle.limits.specs.Limits.{clockMax, settingMax, countMax}
 use Rattle.limits.specs.Refusals.{beyondLimit, countFull}
-use Rattle.timer.specs.declared.Timer.{Timer}
-use Rattle.timer.specs.declared.Timer.the-variants.{T1Init, T1Cookie, T2Shutdown, T3RTX, Reconfig, Ack}
+use Rattle.timer_entry.specs.declared.Timer.{Timer}
+use Rattle.timer_entry.specs.declared.Timer.the-variants.{T1Init, T1Cookie, T2Shutdown, T3RTX, Reconfig, Ack}
 use Rattle.limits.specs.declared.Moment.{Moment}
 use Rattle.limits.specs.declared.Moment.the-variants.{Absent, At}
-use Rattle.timer.specs.declared.Maximum.{Maximum}
-use Rattle.timer.specs.declared.Maximum.the-variants.{Unlimited}
-use Rattle.timer.specs.declared.Entry.{Entry}
+use Rattle.timer_entry.specs.declared.Maximum.{Maximum}
+use Rattle.timer_entry.specs.declared.Maximum.the-variants.{Unlimited}
+use Rattle.timer_entry.specs.declared.Entry.{Entry}
 use Rattle.timer.specs.declared.TimerTable.{TimerTable}
 use Rattle.timer.specs.declared.Changed.{Changed}
 use Rattle.timer.specs.declared.Checked.{Checked}
 use Rattle.limits.specs.Moments.{passed, ahead, beyond}
-use Rattle.timer.specs.Timers.{place, entryOf, withEntry, withDeadline, withCount, withSuppression, idleEntry, failsAt, waitOf}
+use Rattle.timer_entry.specs.Entries.{place, idleEntry, failsAt}
+use Rattle.timer.specs.Timers.{entryOf, withEntry, withDeadline, withCount, withSuppression, waitOf}
 use Rattle.timer.specs.Calls.{numberOf, expiryNumber, countOf, done, refused, told, denied, guarded, maximumOf, fresh, newOf, getOf, startable, startedOf, expiryOf, isExpiredOf}
 use Rattle.timer_claims.specs.Claims.{Call, set, get, nextTimeout, start, restartIfStale, stop, resetRetrans, suppressErrorCount, isExpired}
 use Rattle.timer_claims.specs.Claims.{called, after, latest, Within, PlacesAgree, StaysWithin, RefusalKeeps, CountIsKept}

@@ -5,14 +5,15 @@ use mathlib.Core.List.{List, [], _∷_}
 use mathlib.Core.Bool.{false}
 use lib.ListN.{length}
 use Rattle.limits.specs.Limits.{clockMax, settingMax, countMax}
-use Rattle.timer.specs.declared.Timer.{Timer}
-use Rattle.timer.specs.declared.Found.the-variants.{Value}
+use Rattle.timer_entry.specs.declared.Timer.{Timer}
+use Rattle.timer_entry.specs.declared.Found.the-variants.{Value}
 use Rattle.limits.specs.declared.Moment.{Moment}
-use Rattle.timer.specs.declared.Maximum.{Maximum}
-use Rattle.timer.specs.declared.Entry.{Entry}
+use Rattle.timer_entry.specs.declared.Maximum.{Maximum}
+use Rattle.timer_entry.specs.declared.Entry.{Entry}
 use Rattle.timer.specs.declared.TimerTable.{TimerTable}
 use Rattle.limits.specs.Moments.{beyond}
-use Rattle.timer.specs.Timers.{place, order, timerAt, entryOf}
+use Rattle.timer_entry.specs.Entries.{place, order, timerAt}
+use Rattle.timer.specs.Timers.{entryOf}
 use Rattle.timer.specs.Calls.{numberOf, expiryNumber, countOf, newOf, setOf, startOf, restartIfStaleOf, stopOf, resetRetransOf, suppressErrorCountOf, isExpiredOf}
 
 -- a call on a table, with its arguments

@@ -1,8 +1,8 @@
--- `timer::Timer::at` reads the order at a place that it has. Assumes nothing.
+-- `timer_entry::Timer::at` reads the order at a place that it has. Assumes nothing.
 use borrow.Author.Needs.{needs}
 use borrow.Author.Tests.{lt-ltb, le-ltb}
-use Rattle.timer.proofs.Timer.at.Statement.{statement}
-use Rattle.timer.proofs.Timer.at.Tie as tie
+use Rattle.timer_entry.proofs.Timer.at.Statement.{statement}
+use Rattle.timer_entry.proofs.Timer.at.Tie as tie
 
 array-copy-out-t12 : tie.Need-array-copy-out-t12
 array-copy-out-t12 c = search needs

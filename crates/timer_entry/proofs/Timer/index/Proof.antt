@@ -1,9 +1,9 @@
--- `timer::Timer::index` answers the place of each variant. Assumes nothing.
+-- `timer_entry::Timer::index` answers the place of each variant. Assumes nothing.
 use mathlib.Core.Path.{sym, ap}
-use Rattle.timer.specs.Timers.{place}
+use Rattle.timer_entry.specs.Entries.{place}
 use borrow.Author.Needs.{needs}
-use Rattle.timer.proofs.Timer.index.Statement.{statement}
-use Rattle.timer.proofs.Timer.index.Tie as tie
+use Rattle.timer_entry.proofs.Timer.index.Statement.{statement}
+use Rattle.timer_entry.proofs.Timer.index.Tie as tie
 
 enum-told : tie.Need-enum-told
 enum-told c = search needs

@@ -1,7 +1,7 @@
--- `timer::Maximum::exceeded` compares what the value holds, and answers no where it holds nothing. Assumes nothing.
+-- `timer_entry::Maximum::exceeded` compares what the value holds, and answers no where it holds nothing. Assumes nothing.
 use borrow.Author.Needs.{needs}
-use Rattle.timer.proofs.Maximum.exceeded.Statement.{statement}
-use Rattle.timer.proofs.Maximum.exceeded.Tie as tie
+use Rattle.timer_entry.proofs.Maximum.exceeded.Statement.{statement}
+use Rattle.timer_entry.proofs.Maximum.exceeded.Tie as tie
 
 enum-told : tie.Need-enum-told
 enum-told c = search needs
