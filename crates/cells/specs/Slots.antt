@@ -14,9 +14,9 @@ use Rattle.model.specs.Lists.{if_then_else_}
 use Rattle.rows.specs.View.{lt-or-ge}
 use lib.Seq.{drop-drop, drop-cons, drop-length, getD-drop, getD-take, take-set-lt, take-set-le, drop-set-lt, drop-set-add, set-getD, set-set, set-out, sets, sets-eq}
 
--- at most 2 ^ 31 slots, half of the TSNs: so a sum of 32-bit lengths over them fits 64 bits, and no call has to ask for that
+-- at most 2 ^ 30 slots: so a sum of 32-bit lengths over two rings and the flight fits 64 bits, and no call has to ask for that
 abbrev pub limit : ℕ
-limit = 2147483648
+limit = 1073741824
 
 -- how many slots the words make; up to seven words at the end are of no slot
 abbrev pub roomOf : List ℕ → ℕ

@@ -9,7 +9,7 @@ ghost use Rattle.cells.specs.Slots.{roomOf, written};
 ghost use Rattle.cells.specs.Words.{bitOf, flagsOf, lowOf, highOf};
 
 // The most slots that a slice has; `limit` of specs/ is the same number.
-const LIMIT: usize = 2_147_483_648;
+const LIMIT: usize = 1_073_741_824;
 // What the upper number of a pair counts in its word.
 pub const HIGH: u64 = 4_294_967_296;
 

@@ -1,5 +1,5 @@
 -- What the invariant says of the rings and the flight of a state, in the words of `Kept`.
-use Prim.Native.Nat.{ℕ, suc, _≤_}
+use Prim.Native.Nat.{ℕ, suc, _≤_, _<_}
 use native.Mathlib.Nat.{le-refl}
 use native.Mathlib.Omega.{arith}
 use mathlib.Core.Path.{_≡_, refl, sym, ap, subst, _∙_}
@@ -19,12 +19,12 @@ use Rattle.model.specs.declared.UnderWay.the-variants.{Idle, Sending}
 use Rattle.model.specs.Lists.{if_then_else_, keep}
 use Rattle.model.specs.State.{Sender, at, isOf}
 use Rattle.model.specs.Rings.{headLane, head}
-use Rattle.demands.specs.Words.{behind, Each, Waits, numberUnderWay}
+use Rattle.demands.specs.Words.{behind, Each, Waits, numberOfHead, numberUnderWay}
 use Rattle.demands.specs.States.{Contiguous, Ascending, dropRun, Has}
 use Rattle.demands.proofs.Basic.{if-case, bool-case}
 use Rattle.demands.proofs.Each.{each-weaken, each-append, each-passing, none-kept}
 use Rattle.demands.proofs.Ring.{Ring, floor-behind, From, ring-weaken, NotOf, none-of, whole-waits, ring-ascending}
-use Rattle.demands.proofs.Valid.{Valid, Waiting, FlightFits, Begun, rank, other, both, want, lastNumber, number-is, front, not-beside, not-want, none-pending, flies-begun, sheets}
+use Rattle.demands.proofs.Valid.{Valid, Waiting, FlightFits, Begun, rank, other, both, want, lastNumber, number-is, front, continues, not-beside, not-want, none-pending, flies-begun, sheets}
 
 -- ---- leading runs
 
@@ -77,6 +77,18 @@ module _ {room : Room} (s : Sender) (v : Valid room s) where
       go (Sending k) b =
           bool-case (λ t. isOf n (v .last) ≡ t → lastNumber (Sending k) (v .last) ≡ some n) (isOf n (v .last)) (λ _ e. ap some (eqb-true (v .last .message .number) n e))
           (λ _ e. absurd (b (λ q. eqb-false (v .last .message .number) n e (cc)))) refl
+
+  pub head-rest : (c : Chunk) → head (s .pending) ≡ some c → c .beginning ≡ false → numberUnderWay (s .pending) ≡ some (c .message .number)
+  head-rest c e b =
+      ap (λ (w : UnderWay). numberOfHead w (head (s .pending))) (continues v c e b .underWay)
+      ∙ ap (numberOfHead (Sending (headLane (s .pending)))) e
+
+  pub terminator-room : (n : ℕ) → numberUnderWay (s .pending) ≡ some n → length (s .flight .entries) < room .flight
+  terminator-room n e = go (s .pending .underWay) e (v .flight-fits)
+    where
+      go : (w : UnderWay) → numberOfHead w (head (s .pending)) ≡ some n → FlightFits room w (length (s .flight .entries)) → length (s .flight .entries) < room .flight
+      go Idle e h = let y : none ≡ some n = e in let z : _≡_ {A = ℕ} 0 1 = cc in absurd (omega arith)
+      go (Sending l) e h = omega arith
 
   pub contiguous : Contiguous (numberUnderWay (s .pending)) (s .flight .entries)
   contiguous = subst (λ (w : Option ℕ). Contiguous w (s .flight .entries)) (sym (number-is v)) (v .chain)

@@ -25,7 +25,7 @@ use Rattle.demands.proofs.Each.{each-weaken, each-append}
 use Rattle.demands.proofs.Lists.{lists-head}
 use Rattle.demands.proofs.Chunks.{Chunked, chunked-seen, reached-chunked}
 use Rattle.demands.proofs.Valid.{Valid, starts}
-use Rattle.demands.proofs.Runs.{head-run, flight-run, flight-room, whole, partly, contiguous, shared, ordered}
+use Rattle.demands.proofs.Runs.{head-run, flight-run, flight-room, whole, partly, head-rest, terminator-room, contiguous, shared, ordered}
 use Rattle.demands.proofs.Steps.{reached}
 
 -- with nothing under way the head is in the ordered ring only if the other is empty
@@ -54,6 +54,8 @@ kept room s v k =
       flying = k .flying;
       whole = whole s v;
       partly = partly s v;
+      headRest = head-rest s v;
+      terminatorRoom = terminator-room s v;
       contiguous = contiguous s v;
       shared = shared s v;
       ordered = ordered s v;

@@ -108,6 +108,9 @@ pub record Kept (room : Room) (s : Sender) : Type 0 where
   pub whole : (l : Lane) (n : ℕ) → Has n (at l (s .pending)) → numberUnderWay (s .pending) ≢ some n → Waits n (at l (s .pending))
   -- a message that is in flight and pending is the one under way
   pub partly : (l : Lane) (n : ℕ) → Has n (at l (s .pending)) → Has n (s .flight .entries) → numberUnderWay (s .pending) ≡ some n
+  -- a head that is no first fragment is of the message under way, and while one is under way a place in flight is left for its terminator
+  pub headRest : (c : Chunk) → head (s .pending) ≡ some c → c .beginning ≡ false → numberUnderWay (s .pending) ≡ some (c .message .number)
+  pub terminatorRoom : (n : ℕ) → numberUnderWay (s .pending) ≡ some n → length (s .flight .entries) < room .flight
   pub contiguous : Contiguous (numberUnderWay (s .pending)) (s .flight .entries)
   -- the chunks of a message, pending or in flight, share U, type, reliability, SSN and deadline
   pub shared : (n : ℕ) → (x : Message) × Each (λ c. c .message ≡ x) (keep (isOf n) (s .pending .ordered ++ s .pending .unordered ++ s .flight .entries))

@@ -1,36 +1,24 @@
 // What is pending and what is in flight, together: a record by value, and the cells of two rings and of the flight, lent. `senderOf` of
-// specs/ reads the model's sender from them, with no streams, and each contract is an equation with the model's call. Where code does
-// less than the definition, since the states that calls reach are `Good`, the equation stands under that; no call asks anything.
-use limits::Moment;
-use model::Chunk;
-use model::Done;
+// specs/ reads the model's sender from them, with no streams, and each contract is an equation with the model's call, for every record and
+// every cells. Sending stands in `outbound_send`, expiry and abandonment in `outbound_expiry`.
 use model::Earliest;
-use model::Expired;
 use model::Found;
-use model::Listed;
 use model::Message;
-use model::Sent;
 use payload_queue::PayloadQueue;
-use payload_queue::Pending;
 use pending_queue::PendingQueue;
 ghost use mathlib.Core.Path.{_≡_};
 ghost use mathlib.Core.Bool.{_&&_};
 ghost use mathlib.Core.List.{List, _++_};
-ghost use Prim.Native.Nat.{ℕ, suc, _+_, _≤_};
+ghost use Prim.Native.Nat.{ℕ, _+_, _≤_};
 ghost use lib.ListN.{length};
 ghost use lib.Dec.{leb, eqb};
-ghost use Rattle.model.specs.State.{inFlight, nextTsn};
-ghost use Rattle.model.specs.Rings.{head, bytes, startLifetimes, sentAt, send, expires, expirePending, expiredInflight};
-ghost use Rattle.model.specs.Flight.{acknowledge, pop, markAll, found, isAbandoned, hasStream, earliestOutstanding};
 ghost use Rattle.limits.specs.Limits.{numberMax};
+ghost use Rattle.model.specs.State.{inFlight, nextTsn};
 ghost use Rattle.model.specs.Messages.{pieces};
-ghost use Rattle.cells.specs.Slots.{roomOf};
-ghost use Rattle.demands.specs.Words.{numberUnderWay};
-ghost use Rattle.payload_queue.specs.Queue.{flightOf};
-ghost use Rattle.pending_queue.specs.Queue.{pendingIn};
-ghost use Rattle.outbound_queue.specs.Outbound.{senderOf, roomIn, Counted, Good};
+ghost use Rattle.model.specs.Rings.{head, bytes};
+ghost use Rattle.model.specs.Flight.{acknowledge, pop, markAll, found, isAbandoned, hasStream, earliestOutstanding};
+ghost use Rattle.outbound_queue.specs.Outbound.{senderOf, Counted};
 ghost use Rattle.outbound_queue.specs.Asked.{streamIn};
-ghost use Rattle.outbound_queue.specs.Listings.{named, listingOf};
 ghost use Rattle.outbound_queue.specs.Writes.{numberedAs, Pushes};
 
 pub struct OutboundQueue {
@@ -54,21 +42,6 @@ pub struct Acked {
 pub struct Pushed {
     pub queue: OutboundQueue,
     pub done: bool,
-}
-
-pub struct Started {
-    pub queue: OutboundQueue,
-    pub answer: Done,
-}
-
-pub struct Sending {
-    pub queue: OutboundQueue,
-    pub answer: Sent,
-}
-
-pub struct Expiring {
-    pub queue: OutboundQueue,
-    pub answer: Expired,
 }
 
 // ---- what is asked
@@ -212,259 +185,6 @@ pub fn mark_all_to_retransmit(q: OutboundQueue, flight: &mut [u64])
     ensures { λ _. ⌜ ((u o : List ℕ) → (senderOf q u o (now (flight .exit)) ≡ markAll (senderOf q u o (now (flight .entry)))) × (Counted q u o (now (flight .entry)) → Counted q u o (now (flight .exit)))) ⌝ }
 {
     payload_queue::mark_all_to_retransmit(q.inflight, flight)
-}
-
-// ---- lifetimes, and sending
-
-// Starts the lifetimes of the messages not yet seen. The rings are in the order of the message numbers, so these stand at their ends.
-pub fn start_timed_messages(
-    q: OutboundQueue,
-    unordered: &mut [u64],
-    ordered: &mut [u64],
-    clock: u64,
-) -> Started
-    ensures { λ r. ⌜ ((f : List ℕ) → (Good (senderOf q (now (unordered .entry)) (now (ordered .entry)) f) → record { after = senderOf (r .queue) (now (unordered .exit)) (now (ordered .exit)) f; says = r .answer } ≡ startLifetimes clock (senderOf q (now (unordered .entry)) (now (ordered .entry)) f)) × (Counted q (now (unordered .entry)) (now (ordered .entry)) f → Counted (r .queue) (now (unordered .exit)) (now (ordered .exit)) f)) ⌝ }
-{
-    if limits::CLOCK_MAX < clock {
-        return Started {
-            queue: q,
-            answer: Done::Refused(limits::BEYOND_LIMIT),
-        };
-    }
-    let pending = q.pending;
-    let inflight = q.inflight;
-    let next = q.next_message_id;
-    pending_queue::start_timed_messages(
-        pending,
-        unordered,
-        ordered,
-        clock,
-        q.next_unstarted_message_id,
-    );
-    Started {
-        queue: OutboundQueue {
-            pending: pending,
-            inflight: inflight,
-            next_message_id: next,
-            next_unstarted_message_id: next,
-        },
-        answer: Done::Done,
-    }
-}
-
-// A chunk as it is filed: sent now, for the first time.
-fn stamp(chunk: Chunk, clock: u64) -> Chunk
-    ensures { λ r. ⌜ r ≡ sentAt clock chunk ⌝ }
-{
-    let message = chunk.message;
-    Chunk {
-        message: message,
-        beginning: chunk.beginning,
-        ending: chunk.ending,
-        offset: chunk.offset,
-        length: chunk.length,
-        since: Moment::At(clock),
-        nsent: 1,
-        acked: chunk.acked,
-        abandoned: chunk.abandoned,
-        retransmit: chunk.retransmit,
-    }
-}
-
-// Whether the flight has room for no more than a terminator.
-fn is_full(inflight: PayloadQueue, flight: &[u64]) -> bool
-    ensures { λ r. ⌜ r ≡ leb (roomOf (now (flight .entry))) (suc (length (flightOf inflight (now (flight .entry)) .entries))) ⌝ }
-{
-    cells::room(flight) <= payload_queue::len(inflight, flight) + 1
-}
-
-// The head goes to the flight, with lifetimes started. What is refused is refused before the first store.
-pub fn send_next(
-    q: OutboundQueue,
-    unordered: &mut [u64],
-    ordered: &mut [u64],
-    flight: &mut [u64],
-    clock: u64,
-) -> Sending
-    ensures { λ r. ⌜ (Good (senderOf q (now (unordered .entry)) (now (ordered .entry)) (now (flight .entry))) → record { after = senderOf (r .queue) (now (unordered .exit)) (now (ordered .exit)) (now (flight .exit)); says = r .answer } ≡ send (roomIn (now (flight .entry))) clock (senderOf q (now (unordered .entry)) (now (ordered .entry)) (now (flight .entry)))) × (Counted q (now (unordered .entry)) (now (ordered .entry)) (now (flight .entry)) → Counted (r .queue) (now (unordered .exit)) (now (ordered .exit)) (now (flight .exit))) ⌝ }
-{
-    if limits::CLOCK_MAX < clock {
-        return Sending {
-            queue: q,
-            answer: Sent::Refused(limits::BEYOND_LIMIT),
-        };
-    }
-    let pending = q.pending;
-    let inflight = q.inflight;
-    let next = q.next_message_id;
-    let front = pending_queue::peek(pending, unordered, ordered);
-    let Found::One(_) = front else {
-        pending_queue::start_timed_messages(
-            pending,
-            unordered,
-            ordered,
-            clock,
-            q.next_unstarted_message_id,
-        );
-        return Sending {
-            queue: OutboundQueue {
-                pending: pending,
-                inflight: inflight,
-                next_message_id: next,
-                next_unstarted_message_id: next,
-            },
-            answer: Sent::Nothing,
-        };
-    };
-    if is_full(inflight, flight) {
-        return Sending {
-            queue: q,
-            answer: Sent::Refused(limits::FLIGHT_FULL),
-        };
-    }
-    let tsn = payload_queue::next_tsn(inflight, flight);
-    pending_queue::start_timed_messages(
-        pending,
-        unordered,
-        ordered,
-        clock,
-        q.next_unstarted_message_id,
-    );
-    let taken = pending_queue::pop(pending, unordered, ordered);
-    let rest = taken.queue;
-    let first = taken.front;
-    let Found::One(chunk) = first else {
-        return Sending {
-            queue: OutboundQueue {
-                pending: rest,
-                inflight: inflight,
-                next_message_id: next,
-                next_unstarted_message_id: next,
-            },
-            answer: Sent::Nothing,
-        };
-    };
-    let sent = stamp(chunk, clock);
-    let longer = payload_queue::push(inflight, flight, sent);
-    Sending {
-        queue: OutboundQueue {
-            pending: rest,
-            inflight: longer,
-            next_message_id: next,
-            next_unstarted_message_id: next,
-        },
-        answer: Sent::Yielded(tsn, sent),
-    }
-}
-
-// ---- expiry
-
-// A first fragment that is not empty, not of type 50, and at or past its deadline.
-fn is_expired(chunk: Chunk, clock: u64) -> bool
-    ensures { λ r. ⌜ r ≡ expires clock chunk ⌝ }
-{
-    if !chunk.beginning {
-        return false;
-    }
-    if chunk.length < 1 {
-        return false;
-    }
-    let message = chunk.message;
-    if message.protocol == 50 {
-        return false;
-    }
-    let deadline = message.deadline;
-    deadline.reached(clock)
-}
-
-// A wholly unsent message at the head goes, and takes no TSN; behind an ordered one the SSNs of its stream close the gap.
-pub fn expire_pending(
-    q: OutboundQueue,
-    unordered: &[u64],
-    ordered: &mut [u64],
-    clock: u64,
-) -> Expiring
-    ensures { λ r. ⌜ ((f : List ℕ) → (Good (senderOf q (now (unordered .entry)) (now (ordered .entry)) f) → record { after = senderOf (r .queue) (now (unordered .entry)) (now (ordered .exit)) f; says = r .answer } ≡ expirePending clock (senderOf q (now (unordered .entry)) (now (ordered .entry)) f)) × (Counted q (now (unordered .entry)) (now (ordered .entry)) f → Counted (r .queue) (now (unordered .entry)) (now (ordered .exit)) f)) ⌝ }
-{
-    if limits::CLOCK_MAX < clock {
-        return Expiring {
-            queue: q,
-            answer: Expired::Refused(limits::BEYOND_LIMIT),
-        };
-    }
-    let pending = q.pending;
-    let inflight = q.inflight;
-    let front = pending_queue::peek(pending, unordered, ordered);
-    let Found::One(chunk) = front else {
-        return Expiring {
-            queue: q,
-            answer: Expired::Nothing,
-        };
-    };
-    if !is_expired(chunk, clock) {
-        return Expiring {
-            queue: q,
-            answer: Expired::Nothing,
-        };
-    }
-    let message = chunk.message;
-    let removed = pending_queue::remove_message(pending, unordered, ordered, message.number);
-    let rest = removed.queue;
-    let after = OutboundQueue {
-        pending: rest,
-        inflight: inflight,
-        next_message_id: q.next_message_id,
-        next_unstarted_message_id: q.next_unstarted_message_id,
-    };
-    let answer = Expired::Message {
-        stream: message.stream,
-        unordered: message.unordered,
-        bytes: removed.bytes,
-    };
-    if message.unordered {
-        return Expiring {
-            queue: after,
-            answer: answer,
-        };
-    }
-    pending_queue::compact_ordered_ssns(rest, ordered, message.stream);
-    Expiring {
-        queue: after,
-        answer: answer,
-    }
-}
-
-// The message under way: the only one that can be both in flight and pending.
-fn under_way(pending: PendingQueue, unordered: &[u64], ordered: &[u64]) -> Pending
-    ensures { λ r. ⌜ r ≡ named (numberUnderWay (pendingIn pending (now (unordered .entry)) (now (ordered .entry)))) ⌝ }
-{
-    if !pending.selected {
-        return Pending::Nothing;
-    }
-    let front = pending_queue::peek(pending, unordered, ordered);
-    let Found::One(chunk) = front else {
-        return Pending::Nothing;
-    };
-    let message = chunk.message;
-    Pending::Message(message.number)
-}
-
-// The TSNs in flight whose message has expired, oldest first, in the front of the lent list.
-pub fn expired_inflight(
-    q: OutboundQueue,
-    unordered: &[u64],
-    ordered: &[u64],
-    flight: &[u64],
-    clock: u64,
-    out: &mut [u32],
-) -> Listed
-    ensures { λ r. ⌜ (Good (senderOf q (now (unordered .entry)) (now (ordered .entry)) (now (flight .entry))) → listingOf r (now (out .exit)) ≡ expiredInflight clock (length (now (out .entry))) (senderOf q (now (unordered .entry)) (now (ordered .entry)) (now (flight .entry)))) ⌝ }
-{
-    if limits::CLOCK_MAX < clock {
-        return Listed::Refused(limits::BEYOND_LIMIT);
-    }
-    let awaited = under_way(q.pending, unordered, ordered);
-    payload_queue::expired(q.inflight, flight, clock, awaited, out)
 }
 
 // ---- a message is pushed

@@ -342,7 +342,7 @@ struct Run {
 
 // The leading run of a message leaves a ring.
 fn remove_run(ring: Ring, cells: &[u64], number: u64) -> Run
-    ensures { λ r. ⌜ (held (r .ring) (now (cells .entry)) ≡ dropRun number (held ring (now (cells .entry)))) × (r .bytes ≡ bytes (takeWhile (isOf number) (held ring (now (cells .entry))))) × (r .last ≡ found (last (takeWhile (isOf number) (held ring (now (cells .entry)))))) × (r .bytes ≤ 9223372034707292160) ⌝ }
+    ensures { λ r. ⌜ (held (r .ring) (now (cells .entry)) ≡ dropRun number (held ring (now (cells .entry)))) × (r .bytes ≡ bytes (takeWhile (isOf number) (held ring (now (cells .entry))))) × (r .last ≡ found (last (takeWhile (isOf number) (held ring (now (cells .entry)))))) × (r .bytes ≤ 4611686017353646080) ⌝ }
 {
     let mut rest = ring;
     let mut n = ring::count(ring, cells);

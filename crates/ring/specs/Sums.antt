@@ -38,7 +38,7 @@ sum-short [] h = omega arith
 sum-short (c ∷ l) h = omega (arith, h 0, sum-short l (λ (i : ℕ). h (suc i)))
 
 -- so a ring's bytes are below 2 ^ 63, and those of two rings fit 64 bits
-pub held-bytes : (r : Ring) (ws : List ℕ) → bytes (held r ws) ≤ 9223372034707292160
+pub held-bytes : (r : Ring) (ws : List ℕ) → bytes (held r ws) ≤ 4611686017353646080
 held-bytes r ws = omega (arith, held-limit r ws, sum-short (held r ws) each)
   where
     each : (i : ℕ) → getD (held r ws) i blankChunk .length ≤ 4294967295

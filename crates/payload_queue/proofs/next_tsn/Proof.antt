@@ -1,4 +1,4 @@
--- There are at most 2 ^ 31 entries, so their number is one of 32 bits.
+-- There are at most 2 ^ 30 entries, so their number is one of 32 bits.
 use native.Mathlib.Omega.{arith}
 use denote.Ref.{now}
 use Rattle.ring.specs.Held.{held-limit}

@@ -1,4 +1,4 @@
--- Each ring has at most 2 ^ 31 chunks, so the sum fits.
+-- Each ring has at most 2 ^ 30 chunks, so the sum fits.
 use native.Mathlib.Omega.{arith}
 use denote.Ref.{now}
 use Rattle.ring.specs.Held.{held-limit}

@@ -1,0 +1,203 @@
+-- A message is abandoned, by a TSN or because its rest expires: what each way out of the two calls comes to, of a sender that is a variable.
+use mathlib.Core.Path.{_≡_, refl, sym, ap, ap₂, _∙_}
+use mathlib.Core.Logic.{_≢_}
+use mathlib.Core.Bool.{Bool, true, false, not, _||_}
+use mathlib.Core.Option.{Option, none, some}
+use mathlib.Core.List.{List, [], _∷_, _++_, map, append-nil}
+use Prim.Native.Nat.{ℕ, zero, suc, _+_, _≤_, _<_}
+use native.Mathlib.Omega.{arith}
+use lib.ListN.{length, getElem?, length-map}
+use lib.Dec.{ltb}
+use borrow.Author.Tests.{lt-ltb, le-ltb, eq-eqb}
+use Rattle.limits.specs.Limits.{Room, clockMax}
+use Rattle.limits.specs.Refusals.{beyondLimit}
+use Rattle.model.specs.declared.Abandoned.{Abandoned}
+use Rattle.model.specs.declared.Chunk.{Chunk}
+use Rattle.model.specs.declared.Found.{Found}
+use Rattle.model.specs.declared.Lane.{Lane}
+use Rattle.model.specs.declared.Lane.the-variants.{Unordered, Ordered}
+use Rattle.model.specs.declared.TailExpired.{TailExpired}
+use Rattle.model.specs.Lists.{if_then_else_, keep, last}
+use Rattle.model.specs.State.{Sender, Pending, Flight, Out, same, at, place, inFlight, isOf}
+use Rattle.model.specs.Rings.{head, bytes, pendingOf, without, givenUp, terminator, terminators, abandoned, heldBy, abandoning, abandon, tailExpires, tailExpiring, expirePendingTail}
+use Rattle.model.specs.Flight.{found}
+use Rattle.demands.specs.States.{Has, dropRun}
+use Rattle.payload_queue.specs.Queue.{changed, filed}
+use Rattle.pending_queue.specs.Runs.{runs, withoutRuns, runs-without, runs-pending}
+use Rattle.outbound_queue.specs.Outbound.{Good}
+use Rattle.outbound_expiry.specs.Lean.{closedBy, leanlyAbandoned, leanlyHeld, leanlyAbandoning, leanAbandon, leanlyTailExpiring, leanExpireTail}
+use Rattle.outbound_expiry.specs.Expiry.{found-some, found-none}
+
+-- ---- in a Good state the leading runs are the whole message, and its terminator has a place
+
+-- an entry is of its message
+has-entry : (l : List Chunk) (i : ℕ) (c : Chunk) → getElem? l i ≡ some c → Has (c .message .number) l
+has-entry [] zero c e = let z : none ≡ some c = e in let y : _≡_ {A = ℕ} 0 1 = cc in absurd (omega arith)
+has-entry [] (suc i) c e = let z : none ≡ some c = e in let y : _≡_ {A = ℕ} 0 1 = cc in absurd (omega arith)
+has-entry (d ∷ l) zero c e = by (isOf (c .message .number) d) (let q : d ≡ c = cc in eq-eqb (d .message .number) (c .message .number) (ap (λ (y : Chunk). y .message .number) q))
+  where
+    by : (b : Bool) → b ≡ true → (if b then (d ∷ keep (isOf (c .message .number)) l) else keep (isOf (c .message .number)) l) ≢ []
+    by true e = λ q. let z : _≡_ {A = ℕ} 0 1 = cc in omega arith
+    by false e = let z : _≡_ {A = ℕ} 0 1 = cc in absurd (omega arith)
+has-entry (d ∷ l) (suc i) c e = by (isOf (c .message .number) d) (has-entry l i c e)
+  where
+    by : (b : Bool) → Has (c .message .number) l → (if b then (d ∷ keep (isOf (c .message .number)) l) else keep (isOf (c .message .number)) l) ≢ []
+    by true h = λ q. let z : _≡_ {A = ℕ} 0 1 = cc in omega arith
+    by false h = h
+
+-- where a chunk of the message is pending, it is in a ring
+in-ring : (n : ℕ) (p : Pending) (c : Chunk) → last (pendingOf n p) ≡ some c → (l : Lane) × Has n (at l p)
+in-ring n p c e = by (keep (isOf n) (p .ordered)) refl
+  where
+    other : (x : List Chunk) → keep (isOf n) (p .unordered) ≡ x → last x ≡ some c → Has n (p .unordered)
+    other [] q e = let z : none ≡ some c = e in let y : _≡_ {A = ℕ} 0 1 = cc in absurd (omega arith)
+    other (d ∷ x) q e = λ z. let y : _≡_ {A = ℕ} 0 1 = cc in omega arith
+
+    by : (x : List Chunk) → keep (isOf n) (p .ordered) ≡ x → (l : Lane) × Has n (at l p)
+    by [] q = (Unordered, other (keep (isOf n) (p .unordered)) refl (ap (λ (x : List Chunk). last (x ++ keep (isOf n) (p .unordered))) (sym q) ∙ e))
+    by (d ∷ x) q = (Ordered, λ z. let y : _≡_ {A = ℕ} 0 1 = cc in omega arith)
+
+module _ (room : Room) (s : Sender) (n : ℕ)
+    (run : (l : Lane) → keep (λ (d : Chunk). not (isOf n d)) (at l (s .pending)) ≡ dropRun n (at l (s .pending)))
+    (place-left : (c : Chunk) → last (pendingOf n (s .pending)) ≡ some c → length (s .flight .entries) < room .flight) where
+  closed : (o : Option Chunk) → last (pendingOf n (s .pending)) ≡ o
+      → closedBy (room .flight) o (changed (map (givenUp n)) (s .flight)) ≡ record { oldest = s .flight .oldest; entries = map (givenUp n) (s .flight .entries) ++ terminators o }
+  closed none e = ap (λ (l : List Chunk). record { oldest = s .flight .oldest; entries = l }) (sym (append-nil (map (givenUp n) (s .flight .entries))))
+  closed (some c) e =
+      ap (λ (b : Bool). record { oldest = s .flight .oldest; entries = if b then map (givenUp n) (s .flight .entries) ++ (terminator c ∷ []) else map (givenUp n) (s .flight .entries) })
+      (lt-ltb (length (map (givenUp n) (s .flight .entries))) (room .flight) (omega (arith, length-map (s .flight .entries) (givenUp n), place-left c e)))
+
+  lean-abandoned : leanlyAbandoned room n s ≡ abandoned n s
+  unfolding leanlyAbandoned
+  lean-abandoned =
+      ap₂ (λ (p : Pending) (l : List Chunk). record { streams = s .streams; pending = p; flight = closedBy (room .flight) (last l) (changed (map (givenUp n)) (s .flight)); numbers = s .numbers })
+      (runs-without n (s .pending) run) (runs-pending n (s .pending) run)
+      ∙ ap (λ (f : Flight). record { streams = s .streams; pending = without n (s .pending); flight = f; numbers = s .numbers }) (closed (last (pendingOf n (s .pending))) refl)
+
+  lean-held : leanlyHeld n s ≡ heldBy n s
+  unfolding leanlyHeld
+  lean-held = ap (λ (l : List Chunk). bytes (keep (isOf n) (s .flight .entries)) + bytes l) (runs-pending n (s .pending) run)
+
+module _ {room : Room} {s : Sender} (g : Good room s) where
+  pub lean-abandon : (t : ℕ) → leanAbandon room t s ≡ abandon t s
+  unfolding leanAbandon abandon
+  lean-abandon t = by (inFlight t (s .flight)) refl
+    where
+      by : (o : Option Chunk) → inFlight t (s .flight) ≡ o → leanlyAbandoning o room s ≡ abandoning o s
+      by none e = refl
+      by (some c) e =
+          let n = c .message .number in
+          let f = has-entry (s .flight .entries) (place t (s .flight)) c e in
+          let run = g .flightRun n f in
+          let left : (d : Chunk) → last (pendingOf n (s .pending)) ≡ some d → length (s .flight .entries) < room .flight = λ d q. let z = in-ring n (s .pending) d q in g .terminatorRoom n (g .partly (z .0) n (z .1) f) in
+          ap₂ (λ (a : Sender) (k : ℕ). if c .abandoned then same (Abandoned.Message (c .message .stream) 0) s else record { after = a; says = Abandoned.Message (c .message .stream) k })
+          (lean-abandoned room s n run left) (lean-held room s n run left)
+
+  pub lean-expire-tail : (now : ℕ) → leanExpireTail room now s ≡ expirePendingTail now s
+  unfolding leanExpireTail expirePendingTail
+  lean-expire-tail now = ap (λ (r : Out TailExpired). if ltb clockMax now then same (TailExpired.Refused beyondLimit) s else r) (by (head (s .pending)) refl)
+    where
+      told : Chunk → Sender → ℕ → Out TailExpired
+      told c a k = record { after = a; says = TailExpired.Message (c .message .stream) (c .message .number) k }
+
+      goes : (c : Chunk) → head (s .pending) ≡ some c → c .beginning ≡ false
+          → told c (leanlyAbandoned room (c .message .number) s) (leanlyHeld (c .message .number) s) ≡ told c (abandoned (c .message .number) s) (heldBy (c .message .number) s)
+      goes c e b =
+          let n = c .message .number in
+          let run = g .headRun c e in
+          let left : (d : Chunk) → last (pendingOf n (s .pending)) ≡ some d → length (s .flight .entries) < room .flight = λ d q. g .terminatorRoom n (g .headRest c e b) in
+          ap₂ (told c) (lean-abandoned room s n run left) (lean-held room s n run left)
+
+      by : (o : Option Chunk) → head (s .pending) ≡ o → leanlyTailExpiring o room now s ≡ tailExpiring o now s
+      by none e = refl
+      by (some c) e = at-flag (c .beginning) refl
+        where
+          at-flag : (b : Bool) → c .beginning ≡ b → leanlyTailExpiring (some c) room now s ≡ tailExpiring (some c) now s
+          at-flag true q = rw q refl
+          at-flag false q = ap (λ (r : Out TailExpired). if tailExpires now c then r else same TailExpired.Nothing s) (goes c e q)
+
+-- ---- what the code gives up: `p` is pending then, `g` the flight with the message's entries marked, `f` the flight behind
+-- the terminator, and `k` its room, which marking left
+
+module _ (room : Room) (n : ℕ) (s : Sender) {p : Pending} {g : Flight} (v : p ≡ withoutRuns n (s .pending)) (w : g ≡ changed (map (givenUp n)) (s .flight)) where
+  gives : {f : Flight} → f ≡ closedBy (room .flight) (last (runs n (s .pending))) g → record { streams = s .streams; pending = p; flight = f; numbers = s .numbers } ≡ leanlyAbandoned room n s
+  unfolding leanlyAbandoned
+  gives e =
+      ap₂ (λ (y : Pending) (z : Flight). record { streams = s .streams; pending = y; flight = z; numbers = s .numbers }) v
+      (e ∙ ap (closedBy (room .flight) (last (runs n (s .pending)))) w)
+
+  pub gives-none : found (last (runs n (s .pending))) ≡ Found.Nothing → record { streams = s .streams; pending = p; flight = g; numbers = s .numbers } ≡ leanlyAbandoned room n s
+  gives-none e = gives (sym (ap (λ (o : Option Chunk). closedBy (room .flight) o g) (found-none (last (runs n (s .pending))) e)))
+
+  pub gives-one : (c : Chunk) → found (last (runs n (s .pending))) ≡ Found.One c → {x : Chunk} {f : Flight} {k : ℕ} → x ≡ terminator c → k ≡ room .flight → f ≡ filed k x g
+      → record { streams = s .streams; pending = p; flight = f; numbers = s .numbers } ≡ leanlyAbandoned room n s
+  gives-one c e q h k =
+      gives (k ∙ ap₂ (λ (i : ℕ) (y : Chunk). filed i y g) h q ∙ sym (ap (λ (o : Option Chunk). closedBy (room .flight) o g) (found-some (last (runs n (s .pending))) c e)))
+
+pub gives-held : (n : ℕ) (s : Sender) {a b : ℕ} → a ≡ bytes (keep (isOf n) (s .flight .entries)) → b ≡ bytes (runs n (s .pending)) → a + b ≡ leanlyHeld n s
+unfolding leanlyHeld
+gives-held n s e q = ap₂ (λ (x y : ℕ). x + y) e q
+
+-- what passes a test holds no more than all
+pub keep-bytes : (p : Chunk → Bool) (l : List Chunk) → bytes (keep p l) ≤ bytes l
+keep-bytes p [] = omega arith
+keep-bytes p (c ∷ l) = by (p c) (keep-bytes p l)
+  where
+    by : (b : Bool) → bytes (keep p l) ≤ bytes l → bytes (if b then (c ∷ keep p l) else keep p l) ≤ bytes (c ∷ l)
+    by true h = omega arith
+    by false h = omega arith
+
+-- ---- the ways out
+
+module _ (room : Room) (t : ℕ) (s : Sender) where
+  at-entry : (o : Option Chunk) {r : Out Abandoned} → inFlight t (s .flight) ≡ o → r ≡ leanlyAbandoning o room s → r ≡ leanAbandon room t s
+  unfolding leanAbandon
+  at-entry o e q = q ∙ sym (ap (λ (y : Option Chunk). leanlyAbandoning y room s) e)
+
+  pub abandon-none : found (inFlight t (s .flight)) ≡ Found.Nothing → same Abandoned.Nothing s ≡ leanAbandon room t s
+  abandon-none e = at-entry none (found-none (inFlight t (s .flight)) e) refl
+
+  module _ (c : Chunk) (e : found (inFlight t (s .flight)) ≡ Found.One c) where
+    abbrev picks : Bool → Out Abandoned
+    picks b =
+        if b then same (Abandoned.Message (c .message .stream) 0) s else
+        record { after = leanlyAbandoned room (c .message .number) s; says = Abandoned.Message (c .message .stream) (leanlyHeld (c .message .number) s) }
+
+    pub abandon-again : c .abandoned ≡ true → same (Abandoned.Message (c .message .stream) 0) s ≡ leanAbandon room t s
+    abandon-again q = at-entry (some c) (found-some (inFlight t (s .flight)) c e) (sym (ap picks q))
+
+    pub abandon-one : c .abandoned ≡ false → {after : Sender} {n : ℕ} → after ≡ leanlyAbandoned room (c .message .number) s → n ≡ leanlyHeld (c .message .number) s
+        → record { after = after; says = Abandoned.Message (c .message .stream) n } ≡ leanAbandon room t s
+    abandon-one q v w =
+        ap₂ (λ (a : Sender) (k : ℕ). record { after = a; says = Abandoned.Message (c .message .stream) k }) v w
+        ∙ at-entry (some c) (found-some (inFlight t (s .flight)) c e) (sym (ap picks q))
+
+module _ (room : Room) (now : ℕ) (s : Sender) where
+  pub tail-late : clockMax < now → same (TailExpired.Refused beyondLimit) s ≡ leanExpireTail room now s
+  unfolding leanExpireTail
+  tail-late h = sym (ap (λ (b : Bool). if b then same (TailExpired.Refused beyondLimit) s else leanlyTailExpiring (head (s .pending)) room now s) (lt-ltb clockMax now h))
+
+  module _ (h : now ≤ clockMax) where
+    at-head : (o : Option Chunk) {r : Out TailExpired} → head (s .pending) ≡ o → r ≡ leanlyTailExpiring o room now s → r ≡ leanExpireTail room now s
+    unfolding leanExpireTail
+    at-head o e q =
+        q ∙ sym (ap (λ (y : Option Chunk). leanlyTailExpiring y room now s) e)
+        ∙ sym (ap (λ (b : Bool). if b then same (TailExpired.Refused beyondLimit) s else leanlyTailExpiring (head (s .pending)) room now s) (le-ltb clockMax now h))
+
+    pub tail-none : found (head (s .pending)) ≡ Found.Nothing → same TailExpired.Nothing s ≡ leanExpireTail room now s
+    tail-none e = at-head none (found-none (head (s .pending)) e) refl
+
+    module _ (c : Chunk) (e : found (head (s .pending)) ≡ Found.One c) where
+      abbrev leaves : Bool → Out TailExpired
+      leaves b =
+          if b then record { after = leanlyAbandoned room (c .message .number) s; says = TailExpired.Message (c .message .stream) (c .message .number) (leanlyHeld (c .message .number) s) }
+          else same TailExpired.Nothing s
+
+      pub tail-not : tailExpires now c ≡ false → same TailExpired.Nothing s ≡ leanExpireTail room now s
+      tail-not q = at-head (some c) (found-some (head (s .pending)) c e) (sym (ap leaves q))
+
+      pub tail-one : tailExpires now c ≡ true → {after : Sender} {n : ℕ} → after ≡ leanlyAbandoned room (c .message .number) s → n ≡ leanlyHeld (c .message .number) s
+          → record { after = after; says = TailExpired.Message (c .message .stream) (c .message .number) n } ≡ leanExpireTail room now s
+      tail-one q v w =
+          ap₂ (λ (a : Sender) (k : ℕ). record { after = a; says = TailExpired.Message (c .message .stream) (c .message .number) k }) v w
+          ∙ at-head (some c) (found-some (head (s .pending)) c e) (sym (ap leaves q))

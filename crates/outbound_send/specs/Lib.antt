@@ -1,0 +1,3 @@
+-- Lean: the two calls as the code makes them of any state. Sends: what each way out of them comes to.
+pub mod Lean
+pub mod Sends
