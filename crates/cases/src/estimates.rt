@@ -1,5 +1,4 @@
 // The estimator, and its refusals.
-use crate::show;
 use rto::Made;
 use rto::Measured;
 use rto::RtoManager;

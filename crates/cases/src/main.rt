@@ -1,7 +1,5 @@
-// 01's examples that are run, each on a line of its own with its label; what it writes is held to the file stdout.
+// 01's examples of timers and RTO that are run, each on a line of its own with its label; what it writes is held to the file stdout.
 mod estimates;
-mod queues;
-mod show;
 mod timers;
 
 fn main() {
@@ -9,6 +7,4 @@ fn main() {
     timers::refusals();
     estimates::measurements();
     estimates::refusals();
-    queues::flight();
-    queues::rings();
 }

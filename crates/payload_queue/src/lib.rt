@@ -89,16 +89,7 @@ pub fn next_tsn(q: PayloadQueue, cells: &[u64]) -> u32
 pub fn contains_stream(q: PayloadQueue, cells: &[u64], stream: u16) -> bool
     ensures { λ r. ⌜ r ≡ hasStream stream (flightOf q (now (cells .entry)) .entries) ⌝ }
 {
-    let ring = q.ring;
-    let n = ring::count(ring, cells);
-    let mut i = 0;
-    while i < n {
-        if ring::nth_stream(ring, cells, i) == stream {
-            return true;
-        }
-        i += 1;
-    }
-    false
+    ring::has_stream(q.ring, cells, stream)
 }
 
 fn is_outstanding(chunk: Chunk) -> bool

@@ -433,20 +433,6 @@ fn has_message(ring: Ring, cells: &[u64], number: u64) -> bool
     false
 }
 
-fn has_stream(ring: Ring, cells: &[u64], stream: u16) -> bool
-    ensures { λ r. ⌜ r ≡ hasStream stream (held ring (now (cells .entry))) ⌝ }
-{
-    let n = ring::count(ring, cells);
-    let mut i = 0;
-    while i < n {
-        if ring::nth_stream(ring, cells, i) == stream {
-            return true;
-        }
-        i += 1;
-    }
-    false
-}
-
 pub fn contains_message(
     queue: PendingQueue,
     unordered: &[u64],
@@ -464,8 +450,8 @@ pub fn contains_message(
 pub fn contains_stream(queue: PendingQueue, unordered: &[u64], ordered: &[u64], stream: u16) -> bool
     ensures { λ r. ⌜ r ≡ hasStream stream (held (queue .unordered) (now (unordered .entry)) ++ held (queue .ordered) (now (ordered .entry))) ⌝ }
 {
-    if has_stream(queue.unordered, unordered, stream) {
+    if ring::has_stream(queue.unordered, unordered, stream) {
         return true;
     }
-    has_stream(queue.ordered, ordered, stream)
+    ring::has_stream(queue.ordered, ordered, stream)
 }

@@ -11,7 +11,7 @@ ghost use lib.Dec.{ltb};
 ghost use Rattle.limits.specs.Limits.{clockMax};
 ghost use Rattle.model.specs.Lists.{first, adjust};
 ghost use Rattle.model.specs.Rings.{givenUp, lowered, started};
-ghost use Rattle.model.specs.Flight.{found, toRetransmit};
+ghost use Rattle.model.specs.Flight.{found, toRetransmit, hasStream};
 ghost use Rattle.cells.specs.Slots.{roomOf};
 ghost use Rattle.chunk_slot.specs.Chunks.{blankChunk};
 ghost use Rattle.chunk_parts.specs.Changes.{heldOf};
@@ -180,6 +180,21 @@ pub fn nth_stream(ring: Ring, cells: &[u64], i: usize) -> u16
 {
     let at = slot(ring, cells, i);
     chunk_parts::stream_at(cells, at)
+}
+
+// Whether some chunk is of the stream.
+pub fn has_stream(ring: Ring, cells: &[u64], stream: u16) -> bool
+    ensures { λ r. ⌜ r ≡ hasStream stream (held ring (now (cells .entry))) ⌝ }
+{
+    let n = count(ring, cells);
+    let mut i = 0;
+    while i < n {
+        if nth_stream(ring, cells, i) == stream {
+            return true;
+        }
+        i += 1;
+    }
+    false
 }
 
 // The i-th is to be retransmitted, if it is neither acknowledged nor abandoned.

@@ -1,7 +1,5 @@
-// One stream by value: its settings, and what a write, a release and an expiry do to it. The table of streams is in `table`. A message is
+// One stream by value: its settings, and what a write, a release and an expiry do to it. The table of streams is `stream_table`. A message is
 // cut by the caller, who has the ring: `message` and `fragments` say what the fragments share and how many they are.
-pub mod table;
-
 use limits::BUFFERED_MAX;
 use limits::Moment;
 use model::Message;

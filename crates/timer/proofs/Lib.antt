@@ -1,3 +1,2 @@
--- What the proofs of `timer` share, and the claims' proofs.
+-- What the proofs of `timer` share.
 pub mod Laws
-pub mod Claims

@@ -1,4 +1,3 @@
 -- Document 01, "Leaves first: `timer.rs`": the timers, as the contracts of `timer` cite them.
 pub mod Timers
 pub mod Calls
-pub mod Claims

@@ -9,10 +9,10 @@ use lib.Ieee.{Float, binary64, div}
 use Rattle.limits.specs.Limits.{room01}
 use Rattle.limits.specs.declared.Moment.{Moment}
 use Rattle.limits.specs.declared.Moment.the-variants.{Absent, At}
-use Rattle.timer.specs.declared.Timer.the-variants.{T3RTX}
-use Rattle.timer.specs.declared.Maximum.the-variants.{Unlimited}
+use Rattle.timer_entry.specs.declared.Timer.the-variants.{T3RTX}
+use Rattle.timer_entry.specs.declared.Maximum.the-variants.{Unlimited}
 use Rattle.timer.specs.Calls.{getOf, newOf}
-use Rattle.timer.specs.Claims as Timers
+use Rattle.timer_claims.specs.Claims as Timers
 use Rattle.rto.specs.Rto.{f64, fresh as estimator}
 use Rattle.rto.specs.Calls as Rto
 use Rattle.model.specs.declared.Released.{Released}
@@ -124,10 +124,11 @@ table =
     ∷ row (Releasing 4 10 (pos 99)) (1 ∷ 0 ∷ [])
     ∷ []
 
--- a row with the answer that the definitions give
-abbrev pub recomputed : Row → Row
-recomputed w = record { asked = w .asked; answer = answerOf (w .asked) }
+-- each row has the answer that the definitions give; row by row, so that a wrong one is refused alone
+abbrev pub Computed : List Row → Type 0
+Computed [] = Unit
+Computed (w ∷ ws) = (answerOf (w .asked) ≡ w .answer) × Computed ws
 
 -- the claim: every row is as the definitions give it
 abbrev pub Worked : Type 0
-Worked = map recomputed table ≡ table
+Worked = Computed table

@@ -1,5 +1,5 @@
 -- The SSN is taken from the word, and the one before it is added.
-use Prim.Native.Nat.{_+_, _/_, _%_}
+use Prim.Native.Nat.{_+_, _-_, _*_, _/_, _%_}
 use native.Mathlib.Omega.{arith}
 use Rattle.cells.specs.Words.{bitAt}
 use Rattle.chunk_marks.specs.Marks.{marksIn}
@@ -27,7 +27,8 @@ returns : tie.Need-returns
 unfolding marksIn
 returns c =
     let m = c .args .marks in
-    remark m _ ((m / 65536 % 65536 + 65535) % 65536) (bitAt 17592186044416 m) (bitAt 35184372088832 m) (bitAt 70368744177664 m) (omega arith)
+    let before = (m / 65536 % 65536 + 65535) % 65536 in
+    remark m (m - m / 65536 % 65536 * 65536 + before * 65536) before (bitAt 17592186044416 m) (bitAt 35184372088832 m) (bitAt 70368744177664 m) (omega arith)
     (omega (arith, bit-of (m / 17592186044416 % 2) (omega arith), bit-of (m / 35184372088832 % 2) (omega arith), bit-of (m / 70368744177664 % 2) (omega arith)))
 
 pub one-lower-spec : {M : Type 1} → statement M

@@ -1,4 +1,8 @@
--- Its parts are the stream's.
+-- Its parts are the stream's; whether it is unordered is what `is_unordered` ensures.
+use mathlib.Core.Path.{ap}
+use mathlib.Core.Bool.{Bool}
+use Rattle.limits.specs.declared.Moment.the-variants.{Absent}
+use Rattle.model.specs.declared.Message.{Message}
 use borrow.Author.Needs.{needs}
 use Rattle.stream.proofs.message.Statement.{statement}
 use Rattle.stream.proofs.message.Tie as tie
@@ -7,7 +11,10 @@ is-unordered-requires : tie.Need-is-unordered-requires
 is-unordered-requires c κs = search needs
 
 returns : tie.Need-returns
-returns c = cc
+returns c =
+    let a = c .before .before .args in
+    let t = a .stream in
+    ap (λ (u : Bool). record { stream = t .identifier; ssn = t .ssn; unordered = u; protocol = a .protocol; number = a .number; reliability = t .reliability; deadline = Absent }) (c .before .is-unordered .ensures)
 
 pub message-spec : {M : Type 1} → statement M
 message-spec = tie.close (tie.spec is-unordered-requires returns)

@@ -1,0 +1,40 @@
+// The sender's head: numbers, by value. All its slots stand in one lent slice: the table of streams in the first 512 words, then the two
+// rings and the flight of its queue. `senderOf` of specs/ reads the model's sender from the two, for every head and every cells; with too
+// few words there is room for fewer streams, or for no chunk.
+use outbound_queue::OutboundQueue;
+ghost use mathlib.Core.Path.{_≡_};
+ghost use mathlib.Core.List.{List};
+ghost use Prim.Native.Nat.{ℕ, _≤_};
+ghost use lib.ListN.{length};
+ghost use Rattle.model.specs.State.{fresh};
+ghost use Rattle.sender_head.specs.Whole.{tableWords, senderOf, Counted};
+
+// `streams` is how many are open.
+pub struct Head {
+    pub queue: OutboundQueue,
+    pub streams: usize,
+}
+
+// The words of 64 streams.
+const TABLE_WORDS: usize = 512;
+
+// A fresh sender, whatever the cells are: the first chunk takes the TSN `tsn`, the first message the number `number`.
+pub fn new(tsn: u32, number: u64) -> Head
+    ensures { λ r. ⌜ ((ws : List ℕ) → (senderOf r ws ≡ fresh tsn number) × Counted r ws) ⌝ }
+{
+    let queue = outbound_queue::new(tsn, number);
+    Head {
+        queue: queue,
+        streams: 0,
+    }
+}
+
+// How many of the words are the table's.
+pub fn table_words(cells: &[u64]) -> usize
+    ensures { λ r. ⌜ (r ≡ tableWords (now (cells .entry))) × (r ≤ length (now (cells .entry))) ⌝ }
+{
+    if cells.len() < TABLE_WORDS {
+        return cells.len();
+    }
+    TABLE_WORDS
+}
