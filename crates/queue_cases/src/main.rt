@@ -31,7 +31,8 @@ fn chunk(c: Chunk) {
     show::number(b" ssn ", shared.ssn as u64);
     show::number(b" offset ", c.offset);
     show::number(b" bytes ", c.length as u64);
-    show::moment(b" deadline ", shared.deadline);
+    let deadline = shared.deadline;
+    show::moment(b" deadline ", deadline);
 }
 
 fn state(q: OutboundQueue, cells: &[u64]) {
@@ -55,7 +56,8 @@ fn write(
 ) -> OutboundQueue {
     let pushed = outbound_push::push(q, cells, message(ssn, unordered), 4, 100, length);
     show::number(b"push of ", length as u64);
-    match pushed.answer {
+    let answer = pushed.answer;
+    match answer {
         Done::Done => show::text(b": done"),
         Done::Refused(n) => show::number(b": refusal ", n as u64),
     }
@@ -65,7 +67,8 @@ fn write(
 
 fn send(q: OutboundQueue, cells: &mut [u64], clock: u64) -> OutboundQueue {
     let sending = outbound_send::send_next(q, cells, clock);
-    match sending.answer {
+    let answer = sending.answer;
+    match answer {
         Sent::Yielded(tsn, c) => {
             show::number(b"send: TSN ", tsn as u64);
             show::text(b" ");
@@ -81,7 +84,8 @@ fn send(q: OutboundQueue, cells: &mut [u64], clock: u64) -> OutboundQueue {
 fn pop(q: OutboundQueue, cells: &[u64], tsn: u32) -> OutboundQueue {
     let popped = outbound_queue::pop(q, cells, tsn);
     show::number(b"pop of ", tsn as u64);
-    match popped.front {
+    let front = popped.front;
+    match front {
         Found::One(c) => {
             show::text(b": ");
             chunk(c);
@@ -95,7 +99,8 @@ fn pop(q: OutboundQueue, cells: &[u64], tsn: u32) -> OutboundQueue {
 fn abandon(q: OutboundQueue, cells: &mut [u64], tsn: u32) -> OutboundQueue {
     let given = outbound_expiry::abandon(q, cells, tsn);
     show::number(b"abandon ", tsn as u64);
-    match given.answer {
+    let answer = given.answer;
+    match answer {
         Abandoned::Message { stream, bytes } => {
             show::number(b": stream ", stream as u64);
             show::number(b" bytes ", bytes);
@@ -114,57 +119,73 @@ fn expired(q: OutboundQueue, cells: &[u64], clock: u64) {
         Listed::Count(n) => show::number(b": ", n as u64),
         Listed::Refused(n) => show::number(b": refusal ", n as u64),
     }
-    show::number(b", list ", out[0] as u64);
-    show::number(b" ", out[1] as u64);
-    show::number(b" ", out[2] as u64);
+    show::short(b", list ", out[0]);
+    show::short(b" ", out[1]);
+    show::short(b" ", out[2]);
     show::line();
 }
 
-// An ordered message of three fragments; one of two finds no room; an unordered one waits for the rest of the message under way; the last
-// entry of the flight is kept free.
-fn filled(cells: &mut [u64]) -> OutboundQueue {
-    let fresh = outbound_queue::new(4_294_967_294, 0);
-    let three = write(fresh, cells, 0, false, 10);
-    let same = write(three, cells, 1, false, 8);
-    let first = send(same, cells, 1);
-    let waits = write(first, cells, 0, true, 3);
-    let second = send(waits, cells, 2);
-    let third = send(second, cells, 3);
-    state(third, cells);
-    send(third, cells, 4)
+// Between the three parts the queue goes with its cells.
+struct Stage {
+    queue: OutboundQueue,
+    slots: [u64; 96],
 }
 
-// Entries leave in order, the rings begin anew behind their ends, and what has expired is listed.
-fn turned(q: OutboundQueue, cells: &mut [u64]) -> OutboundQueue {
-    let same = pop(q, cells, 0);
-    let two = pop(same, cells, 4_294_967_294);
-    let sent = send(two, cells, 4);
-    expired(sent, cells, 5);
-    expired(sent, cells, 6);
-    let acked = outbound_queue::mark_as_acked(sent, cells, 0);
-    expired(acked.queue, cells, 9);
-    let one = pop(acked.queue, cells, 4_294_967_295);
-    let longer = write(one, cells, 1, false, 16);
-    state(longer, cells);
-    longer
+// An ordered message of three fragments; one of two finds no room; an unordered one waits for the rest of the message under way; the last
+// entry of the flight is kept free, until the oldest one leaves.
+fn filled() -> Stage {
+    let mut slots = [0u64; 96];
+    let fresh = outbound_queue::new(4_294_967_294, 0);
+    let three = write(fresh, &mut slots, 0, false, 10);
+    let refused = write(three, &mut slots, 1, false, 8);
+    let first = send(refused, &mut slots, 1);
+    let waits = write(first, &mut slots, 0, true, 3);
+    let second = send(waits, &mut slots, 2);
+    let third = send(second, &mut slots, 3);
+    state(third, &slots);
+    let full = send(third, &mut slots, 4);
+    let same = pop(full, &slots, 0);
+    let two = pop(same, &slots, 4_294_967_294);
+    Stage {
+        queue: two,
+        slots: slots,
+    }
+}
+
+// The rings begin anew behind their ends, and what has expired is listed.
+fn turned(stage: Stage) -> Stage {
+    let mut slots = stage.slots;
+    let q = stage.queue;
+    let sent = send(q, &mut slots, 4);
+    expired(sent, &slots, 5);
+    expired(sent, &slots, 6);
+    let acked = outbound_queue::mark_as_acked(sent, &mut slots, 0);
+    expired(acked.queue, &slots, 9);
+    let one = pop(acked.queue, &slots, 4_294_967_295);
+    let longer = write(one, &mut slots, 1, false, 16);
+    state(longer, &slots);
+    Stage {
+        queue: longer,
+        slots: slots,
+    }
 }
 
 // A message is cut off halfway, and a terminator takes the place of what was not sent.
-fn cut_off(q: OutboundQueue, cells: &mut [u64]) {
-    let begun = send(q, cells, 10);
-    let over = abandon(begun, cells, 2);
-    state(over, cells);
-    let again = abandon(over, cells, 2);
-    let unknown = abandon(again, cells, 9);
-    let last = send(unknown, cells, 11);
-    let rest = pop(last, cells, 0);
-    state(rest, cells);
+fn cut_off(stage: Stage) {
+    let mut slots = stage.slots;
+    let q = stage.queue;
+    let begun = send(q, &mut slots, 10);
+    let over = abandon(begun, &mut slots, 2);
+    state(over, &slots);
+    let again = abandon(over, &mut slots, 2);
+    let unknown = abandon(again, &mut slots, 9);
+    let last = send(unknown, &mut slots, 11);
+    let rest = pop(last, &slots, 0);
+    state(rest, &slots);
 }
 
 fn main() {
-    let mut slots = [0u64; 96];
-    let cells: &mut [u64] = &mut slots;
-    let full = filled(cells);
-    let again = turned(full, cells);
-    cut_off(again, cells);
+    let full = filled();
+    let again = turned(full);
+    cut_off(again);
 }
