@@ -1,2 +1,4 @@
--- Whole: what the head and the lent cells mean as the model's sender, and what a part that came back leaves of it.
+-- Whole: what the head and the lent cells mean as the model's sender, and what a part that came back leaves of it. Lent: a call of the queue
+-- as one of the whole sender.
 pub mod Whole
+pub mod Lent

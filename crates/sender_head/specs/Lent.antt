@@ -1,0 +1,68 @@
+-- A call of the queue, as one of the whole sender: its half of the cells is lent, and `p` are the words that come back. `k` is where that half
+-- begins, as code counts it.
+use mathlib.Core.Path.{_≡_, refl, sym, ap, subst, _∙_}
+use mathlib.Core.List.{List}
+use Prim.Native.Nat.{ℕ}
+use lib.ListN.{length}
+use Rattle.limits.specs.Limits.{Room}
+use Rattle.model.specs.declared.Stream.{Stream}
+use Rattle.model.specs.State.{Sender, Out}
+use Rattle.rows.specs.Parts.{part, patch}
+use Rattle.stream_table.specs.Tables.{tableOf}
+use Rattle.outbound_queue.specs.declared.OutboundQueue.{OutboundQueue}
+use Rattle.outbound_queue.specs.Outbound as Queue
+use Rattle.outbound_queue.specs.Outbound.{Good, Does, ringRoom}
+use Rattle.sender_head.specs.declared.Head.{Head}
+use Rattle.sender_head.specs.Whole.{tableWords, Halves, halves, roomIn, senderOf, Counted, parts-are, queue-back, sender-by, counted-by}
+
+-- the head with another queue
+abbrev pub headed : OutboundQueue → Head → Head
+headed q h = record { queue = q; streams = h .streams }
+
+module _ (h : Head) (ws : List ℕ) (k : ℕ) (counted : k ≡ tableWords ws) where
+  -- the open streams
+  abbrev pub open-streams : List Stream
+  open-streams = tableOf (h .streams) (halves ws .table)
+
+  abbrev lent : List ℕ
+  lent = part k (length ws) ws
+
+  pub queue-is : lent ≡ halves ws .queue
+  queue-is = ap (λ (c : Halves). c .queue) (parts-are ws k counted)
+
+  -- the sender that the queue's call speaks of is the whole one
+  pub lent-sender : Queue.senderOf open-streams (h .queue) lent ≡ senderOf h ws
+  lent-sender = ap (Queue.senderOf open-streams (h .queue)) queue-is
+
+  pub lent-room : roomIn ws .flight ≡ ringRoom lent
+  lent-room = sym (ap ringRoom queue-is)
+
+  pub lent-counted : Counted h ws → Queue.Counted (h .queue) lent
+  lent-counted c = subst (Queue.Counted (h .queue)) (sym queue-is) c
+
+  module _ (q : OutboundQueue) where
+    -- where nothing is stored
+    pub read-sender : Queue.senderOf open-streams q lent ≡ senderOf (headed q h) ws
+    read-sender = ap (Queue.senderOf open-streams q) queue-is
+
+    pub read-counted : Queue.Counted q lent → Counted (headed q h) ws
+    read-counted c = subst (Queue.Counted q) queue-is c
+
+    module _ (p : List ℕ) (e : length p ≡ length lent) where
+      pub back-sender : senderOf (headed q h) (patch k (length ws) ws p) ≡ Queue.senderOf open-streams q p
+      back-sender = sender-by (headed q h) (patch k (length ws) ws p) (queue-back ws k counted p e)
+
+      pub back-counted : Queue.Counted q p → Counted (headed q h) (patch k (length ws) ws p)
+      back-counted c = counted-by (headed q h) (patch k (length ws) ws p) (queue-back ws k counted p e) c
+
+-- ---- what a call comes to, by the sender that is a variable: from `x` to `y` the senders are the same
+
+-- the same outcome of the same sender
+pub said-of : {A : Type 0} {says : A} {x y s t : Sender} (call : Sender → Out A) → y ≡ x → s ≡ t → record { after = x; says = says } ≡ call s → record { after = y; says = says } ≡ call t
+said-of {A} {says} call e f q = ap (λ (o : Sender). record { after = o; says = says }) e ∙ q ∙ ap call f
+
+pub does-of : {A : Type 0} {room : Room} {got other : A} {s t : Sender} (lean said : Sender → A) → got ≡ other → s ≡ t → Does room s other (lean s) (said s) → Does room t got (lean t) (said t)
+does-of {room = room} {got} {other} lean said g f d = subst (λ (o : Sender). Does room o got (lean o) (said o)) f (g ∙ d .0, λ good. g ∙ d .1 good)
+
+pub told-of : {A : Type 0} {says : A} {x y : Sender} → y ≡ x → _≡_ {A = Out A} (record { after = y; says = says }) (record { after = x; says = says })
+told-of {A} {says} e = ap (λ (o : Sender). record { after = o; says = says }) e
