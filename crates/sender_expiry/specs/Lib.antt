@@ -1,0 +1,2 @@
+-- Behind: what an expiry's answer means for the streams.
+pub mod Behind
