@@ -136,6 +136,7 @@ module _ (room : Room) (id m : ℕ) (s : Sender) where
 
     -- none has the identifier, and the new stream `x` joins: `d` tells whether there was room, and `z` is the sender then
     module _ (e : Nothing ≡ sought id (s .streams)) {d : Bool} (r : d ≡ ltb (length (s .streams)) (room .streams)) {x : Stream} (w : x ≡ opened id m) {z : Sender} (b : z ≡ withStreams (joined (room .streams) (s .streams) x) s) where
+      -- those that are open
       abbrev ts : List Stream
       ts = s .streams
 

@@ -1,4 +1,4 @@
--- A law for each way out.
+-- 2, 4 and 5 in this order, and then the stream joins: a law for each way out.
 use mathlib.Core.Path.{sym, _∙_}
 use denote.Ref.{now}
 use Rattle.sender_head.specs.Whole.{roomIn, senderOf}
