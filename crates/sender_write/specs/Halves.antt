@@ -29,10 +29,10 @@ module _ (h : Head) (ws : List ℕ) (k : ℕ) (counted : k ≡ tableWords ws) wh
       abbrev behind : Head
       behind = record { queue = q; streams = h .streams }
 
-      pub pushed-is : {x y : Message} → y ≡ x → (m o n : ℕ) {d : Done}
+      pub pushed-is : (x : Message) {y : Message} → y ≡ x → (m o n : ℕ) {d : Done}
           → ((ts : List Stream) → record { after = Queue.senderOf ts q p; says = d } ≡ pushing (Queue.ringRoom (part k (length ws) ws)) y m o n (Queue.senderOf ts (h .queue) (part k (length ws) ws)))
           → record { after = senderOf behind (patch k (length ws) ws p); says = d } ≡ pushing (roomIn ws .ring) x m o n (senderOf h ws)
-      pushed-is {x} {y} r m o n {d} f =
+      pushed-is x {y} r m o n {d} f =
           let ts = tableOf (h .streams) (halves ws .table) in
           ap (λ (s : Sender). record { after = s; says = d }) (sender-by behind (patch k (length ws) ws p) (queue-back ws k counted p e)) ∙ f ts
           ∙ ap (λ (c : Halves). pushing (Queue.ringRoom (c .queue)) y m o n (Queue.senderOf ts (h .queue) (c .queue))) (parts-are ws k counted)

@@ -134,11 +134,11 @@ module _ (room : Room) (id p o l : ℕ) (s : Sender) where
                 ap (λ (x : List Stream). set x i (written p l t)) streams-stay ∙ update-put id (s .streams) i t (written p l t) e refl
                 ∙ sym (ap (put (written p l t)) streams-stay)
 
-            -- `w` is the stream behind the write, and `y` the sender that has it at the place
-            pub write-done : d ≡ Done.Done → {w : Accepted} → w ≡ accepting p l t → {y : Sender} → y ≡ withStreams (set (z .streams) i (w .stream)) z → Answers (record { after = y; says = Written.Accepted (w .high) })
-            write-done h {w} a b =
+            -- `w` is what the write makes of the stream, and `y` the sender that has `v` at the place
+            pub write-done : d ≡ Done.Done → {w : Accepted} → w ≡ accepting p l t → {y : Sender} {v : Stream} → y ≡ withStreams (set (z .streams) i v) z → v ≡ w .stream → Answers (record { after = y; says = Written.Accepted (w .high) })
+            write-done h {w} a b k =
                 let f : w ≡ record { stream = written p l t; high = rises (t .buffered + l) t } = a ∙ accepting-fits p l t (sym q ∙ fits) in
-                ap (λ (x : Sender). record { after = x; says = Written.Accepted (w .high) }) b
+                ap (λ (x : Sender). record { after = x; says = Written.Accepted (w .high) }) (b ∙ ap (λ (x : Stream). withStreams (set (z .streams) i x) z) k)
                 ∙ ap (λ (x : Accepted). record { after = withStreams (set (z .streams) i (x .stream)) z; says = Written.Accepted (x .high) }) f
                 ∙ ap (λ (x : List Stream). record { after = withStreams x z; says = Written.Accepted (rises (t .buffered + l) t) }) placed
                 ∙ sym (ap (λ (x : Done). turned x z) h)

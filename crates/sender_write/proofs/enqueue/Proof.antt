@@ -1,5 +1,6 @@
 -- The queue came back from the push; the table stays.
 use denote.Ref.{now}
+use Rattle.model.specs.Messages.{messageOf}
 use Rattle.sender_write.specs.Halves.{pushed-is, pushed-counted}
 use borrow.Author.Needs.{needs}
 use Rattle.sender_write.proofs.enqueue.Statement.{statement}
@@ -38,7 +39,7 @@ returns c =
     let p = m .last .1 .0 in
     let q = m .result .queue in
     let k = w .ensures .0 in (
-      pushed-is (a .h) ws (w .result) k p (search needs) q (c .before .before .before .before .before .message .ensures) (a .stream .maximum) (a .offset) (a .length) (m .ensures .0),
+      pushed-is (a .h) ws (w .result) k p (search needs) q (messageOf (a .protocol) (a .h .queue .«next_message_id») (a .stream)) (c .before .before .before .before .before .message .ensures) (a .stream .maximum) (a .offset) (a .length) (m .ensures .0),
       pushed-counted (a .h) ws (w .result) k p (search needs) q (m .ensures .1),
     )
 

@@ -1,5 +1,5 @@
 -- The tests are the model's, in its order; behind the last, what the push answered decides, and the stream that took its own place is the one written to.
-use mathlib.Core.Path.{sym, _∙_}
+use mathlib.Core.Path.{refl, sym, _∙_}
 use denote.Ref.{now}
 use Rattle.sender_head.specs.Whole.{roomIn, senderOf}
 use Rattle.sender_write.specs.Halves.{sought-in}
@@ -131,7 +131,7 @@ returns-6 c =
     let w = f .before .before .before .before .before .table-words in
     let x = f .found .given in
     let e = sym (x .1) ∙ sought-in (a .h) ws (w .result) (w .ensures .0) (a .identifier) (f .before .before .find .ensures) in
-    let t = write-done (roomIn ws) (a .identifier) (a .protocol) (a .offset) (a .length) (senderOf (a .h) ws) (x .0 .0) (x .0 .1 .0) e (g .before .before .before .before .before .if1 .left) (g .before .before .before .before .if2 .left) (g .before .before .before .would-overflow .ensures) (g .before .before .if3 .left) (a .h .queue .«next_message_id») (g .enqueue .ensures .0) (c .before .before .before .before .before .before .enum-told2 .given .1) (c .before .before .before .before .before .written .ensures) (c .before .before .replace .ensures .0) in
+    let t = write-done (roomIn ws) (a .identifier) (a .protocol) (a .offset) (a .length) (senderOf (a .h) ws) (x .0 .0) (x .0 .1 .0) e (g .before .before .before .before .before .if1 .left) (g .before .before .before .before .if2 .left) (g .before .before .before .would-overflow .ensures) (g .before .before .if3 .left) (a .h .queue .«next_message_id») (g .enqueue .ensures .0) (c .before .before .before .before .before .before .enum-told2 .given .1) (c .before .before .before .before .before .written .ensures) (c .before .before .replace .ensures .0) refl in
     (t, λ z. c .before .before .replace .ensures .1 (g .enqueue .ensures .1 z))
 
 pub write-spec : {M : Type 1} → statement M
