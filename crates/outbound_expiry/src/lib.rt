@@ -12,7 +12,6 @@ use outbound_queue::OutboundQueue;
 use payload_queue::Pending;
 ghost use mathlib.Core.Path.{_≡_};
 ghost use mathlib.Core.List.{List};
-ghost use Prim.Native.Nat.{ℕ};
 ghost use lib.ListN.{length};
 ghost use Rattle.model.specs.Rings.{overdue, expires, expirePending, terminator, abandon, tailExpires, expirePendingTail, expiredInflight};
 ghost use Rattle.limits.specs.Limits.{Room};

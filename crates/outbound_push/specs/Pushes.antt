@@ -1,7 +1,7 @@
 -- A message is pushed, with the next number: what that is, and what each way out of the call comes to, of a sender that is a variable.
 use mathlib.Core.Path.{_≡_, refl, sym, ap, ap₂, _∙_}
 use mathlib.Core.Bool.{Bool, true, false, _&&_}
-use mathlib.Core.List.{List, _++_}
+use mathlib.Core.List.{List}
 use Prim.Native.Nat.{ℕ, zero, suc, _+_, _≤_, _<_}
 use native.Mathlib.Omega.{arith}
 use lib.ListN.{length}
@@ -13,7 +13,7 @@ use Rattle.model.specs.declared.Chunk.{Chunk}
 use Rattle.model.specs.declared.Done.{Done}
 use Rattle.model.specs.declared.Message.{Message}
 use Rattle.model.specs.Lists.{if_then_else_}
-use Rattle.model.specs.State.{Sender, Pending, Numbers, Out, same, at, laneOf, withPending, withNumbers, withRing}
+use Rattle.model.specs.State.{Sender, Numbers, Out, same, at, laneOf, withPending, withNumbers, withRing}
 use Rattle.model.specs.Messages.{pieces, cut, numberAfter, pushed}
 use Rattle.pending_queue.specs.Fragments.{withFragments, fits-yes, added-all}
 

@@ -5,13 +5,12 @@ use outbound_queue::OutboundQueue;
 ghost use mathlib.Core.Path.{_≡_};
 ghost use mathlib.Core.Bool.{_&&_};
 ghost use mathlib.Core.List.{List};
-ghost use Prim.Native.Nat.{ℕ, _+_, _≤_};
+ghost use Prim.Native.Nat.{_+_, _≤_};
 ghost use lib.ListN.{length};
 ghost use lib.Dec.{leb, ltb, eqb};
 ghost use Rattle.limits.specs.Limits.{numberMax};
 ghost use Rattle.model.specs.declared.Stream.{Stream};
 ghost use Rattle.model.specs.State.{at, laneOf};
-ghost use Rattle.model.specs.Messages.{pieces};
 ghost use Rattle.outbound_queue.specs.Outbound.{ringsIn, ringRoom, waiting, senderOf, Counted};
 ghost use Rattle.outbound_push.specs.Pushes.{numberedAs, pushing};
 

@@ -6,7 +6,7 @@ use model::Message;
 use outbound_queue::OutboundQueue;
 ghost use mathlib.Core.Path.{_≡_};
 ghost use mathlib.Core.List.{List, map};
-ghost use Prim.Native.Nat.{ℕ, suc, min};
+ghost use Prim.Native.Nat.{suc, min};
 ghost use lib.ListN.{length};
 ghost use lib.Dec.{leb};
 ghost use Rattle.limits.specs.Limits.{clockMax};

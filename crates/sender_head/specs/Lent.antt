@@ -1,6 +1,6 @@
 -- A call of the queue, as one of the whole sender: its half of the cells is lent, and `p` are the words that come back. `k` is where that half
 -- begins, as code counts it.
-use mathlib.Core.Path.{_≡_, refl, sym, ap, subst, _∙_}
+use mathlib.Core.Path.{_≡_, sym, ap, subst, _∙_}
 use mathlib.Core.List.{List}
 use Prim.Native.Nat.{ℕ}
 use lib.ListN.{length}
@@ -11,7 +11,7 @@ use Rattle.rows.specs.Parts.{part, patch}
 use Rattle.stream_table.specs.Tables.{tableOf}
 use Rattle.outbound_queue.specs.declared.OutboundQueue.{OutboundQueue}
 use Rattle.outbound_queue.specs.Outbound as Queue
-use Rattle.outbound_queue.specs.Outbound.{Good, Does, ringRoom}
+use Rattle.outbound_queue.specs.Outbound.{Does, ringRoom}
 use Rattle.sender_head.specs.declared.Head.{Head}
 use Rattle.sender_head.specs.Whole.{tableWords, Halves, halves, roomIn, senderOf, Counted, parts-are, queue-back, sender-by, counted-by}
 

@@ -1,5 +1,5 @@
 -- What the head's numbers and the lent cells mean as the model's sender; and the sender once a part of the cells came back from a call.
-use mathlib.Core.Path.{_≡_, refl, sym, ap, subst, _∙_}
+use mathlib.Core.Path.{_≡_, sym, ap, subst, _∙_}
 use mathlib.Core.List.{List}
 use Prim.Native.Nat.{ℕ, _-_, _≤_, min}
 use native.Mathlib.Omega.{arith}
@@ -10,7 +10,6 @@ use Rattle.model.specs.State.{Sender, withStreams}
 use Rattle.rows.specs.Parts.{part, patch, part-length, patch-length, part-same, part-before, part-after}
 use Rattle.cells.specs.Slots.{roomOf}
 use Rattle.stream_table.specs.Tables.{tableOf}
-use Rattle.outbound_queue.specs.declared.OutboundQueue.{OutboundQueue}
 use Rattle.outbound_queue.specs.Outbound as Queue
 use Rattle.sender_head.specs.declared.Head.{Head}
 

@@ -9,7 +9,6 @@ use model::Sent;
 use model::TailExpired;
 use sender_head::Head;
 ghost use mathlib.Core.Path.{_≡_};
-ghost use mathlib.Core.List.{List};
 ghost use lib.ListN.{length};
 ghost use Rattle.model.specs.Rings.{startLifetimes, send, expirePendingTail, abandon, expiredInflight};
 ghost use Rattle.model.specs.Flight.{acknowledge, pop, markAll};

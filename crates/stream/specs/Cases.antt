@@ -1,15 +1,14 @@
 -- The model's definitions, case by case, as the code meets them.
 use mathlib.Core.Path.{_≡_, refl, sym, ap, _∙_}
 use mathlib.Core.Bool.{Bool, true, false, _&&_, _||_}
-use Prim.Native.Nat.{ℕ, zero, suc, _+_, _-_, _/_, _%_, _≤_, _<_}
-use native.Mathlib.Nat.{not-suc-le-zero, div-zero, div-eq-of-lt, add-div-right}
-use native.Mathlib.Omega.{arith}
+use Prim.Native.Nat.{ℕ, zero, suc, _+_, _%_, _≤_, _<_}
+use native.Mathlib.Nat.{not-suc-le-zero}
 use lib.Dec.{eqb}
 use borrow.Author.Tests.{le-leb, lt-leb}
 use Rattle.limits.specs.Limits.{numberMax, ssns}
 use Rattle.model.specs.declared.Statistics.{Statistics}
 use Rattle.model.specs.Lists.{if_then_else_}
-use Rattle.model.specs.Messages.{pieces, ssnAfter, saturated, countedBy}
+use Rattle.model.specs.Messages.{ssnAfter, saturated, countedBy}
 
 -- ---- two tests, where the second is made only if the first leaves it open
 
@@ -25,19 +24,6 @@ module _ {a : Bool} (b : Bool) where
 
   pub or-on : a ≡ false → b ≡ (a || b)
   or-on e = sym (ap (λ (x : Bool). x || b) e)
-
--- ---- fragments, rounded up
-
-pub pieces-of-none : (l m : ℕ) → m ≡ 0 → 0 ≡ pieces l m
-pieces-of-none l m e = sym (ap (pieces l) e ∙ div-zero (l + (0 - 1)))
-
-pub pieces-none : (l m : ℕ) → 0 < m → l ≡ 0 → 0 ≡ pieces l m
-pieces-none l m h e = let k : l + (m - 1) < m = omega arith in sym (div-eq-of-lt k)
-
-pub pieces-some : (l m : ℕ) → 0 < m → 0 < l → (l - 1) / m + 1 ≡ pieces l m
-pieces-some l m h k =
-    let e : l - 1 + m ≡ l + (m - 1) = omega arith in
-    sym (add-div-right (l - 1) h) ∙ ap (λ (n : ℕ). n / m) e
 
 -- ---- an ordered message takes an SSN
 

@@ -1,5 +1,5 @@
 // One stream by value: its settings, and what a write, a release and an expiry do to it. The table of streams is `stream_table`. A message is
-// cut by the caller, who has the ring: `message` and `fragments` say what the fragments share and how many they are.
+// cut by the caller, who has the ring: `message` says what the fragments share.
 use limits::BUFFERED_MAX;
 use limits::Moment;
 use model::Message;
@@ -11,7 +11,7 @@ ghost use mathlib.Core.Bool.{_||_};
 ghost use Prim.Native.Nat.{_+_, _-_};
 ghost use lib.Dec.{eqb};
 ghost use Rattle.model.specs.Streams.{opened, delivering, thresholds, accounted};
-ghost use Rattle.model.specs.Messages.{pieces, isUnordered, messageOf, ssnAfter, saturated, countedBy};
+ghost use Rattle.model.specs.Messages.{isUnordered, messageOf, ssnAfter, saturated, countedBy};
 ghost use Rattle.model.specs.Rings.{ssnBefore};
 ghost use Rattle.stream.specs.Amounts.{overflows, rises, falls, accepting, freeing};
 
@@ -146,21 +146,6 @@ pub fn message(stream: Stream, protocol: u32, number: u64) -> Message
         reliability: reliability,
         deadline: Moment::Absent,
     }
-}
-
-// How many fragments a message has. Rounding up goes by the byte before the last, so no sum can pass its width.
-pub fn fragments(stream: Stream, length: u32) -> usize
-    ensures { λ r. ⌜ r ≡ pieces length (stream .maximum) ⌝ }
-{
-    let maximum = stream.maximum as usize;
-    if maximum == 0 {
-        return 0;
-    }
-    if length == 0 {
-        return 0;
-    }
-    let before = length as usize - 1;
-    before / maximum + 1
 }
 
 // ---- a message is written

@@ -1,6 +1,5 @@
 -- The entries, the pending chunks, and the terminator where there were some.
 use mathlib.Core.Path.{_≡_, sym, ap, _∙_}
-use mathlib.Core.List.{[]}
 use Prim.Native.Nat.{ℕ, _/_, min}
 use native.Mathlib.Omega.{arith}
 use denote.Ref.{now}

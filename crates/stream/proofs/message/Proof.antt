@@ -2,7 +2,6 @@
 use mathlib.Core.Path.{ap}
 use mathlib.Core.Bool.{Bool}
 use Rattle.limits.specs.declared.Moment.the-variants.{Absent}
-use Rattle.model.specs.declared.Message.{Message}
 use borrow.Author.Needs.{needs}
 use Rattle.stream.proofs.message.Statement.{statement}
 use Rattle.stream.proofs.message.Tie as tie
