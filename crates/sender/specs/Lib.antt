@@ -1,0 +1,2 @@
+-- Sizes: a sender of 01's sizes has 01's room.
+pub mod Sizes
