@@ -253,5 +253,5 @@ pub fn expired_inflight(q: OutboundQueue, cells: &[u64], clock: u64, out: &mut [
     }
     let awaited = under_way(q, cells);
     let k = cells.len() / 24 * 8;
-    payload_queue::expired(q.inflight, &cells[k + k..k + k + k], clock, awaited, out)
+    overdue::expired(q.inflight, &cells[k + k..k + k + k], clock, awaited, out)
 }

@@ -15,7 +15,7 @@ use Rattle.model.specs.declared.Message.{Message}
 use Rattle.model.specs.Lists.{if_then_else_}
 use Rattle.model.specs.State.{Sender, Numbers, Out, same, at, laneOf, withPending, withNumbers, withRing}
 use Rattle.model.specs.Messages.{pieces, cut, numberAfter, pushed}
-use Rattle.pending_queue.specs.Fragments.{withFragments, fits-yes, added-all}
+use Rattle.cutting.specs.Fragments.{withFragments, fits-yes, added-all}
 
 -- the message with another number
 abbrev pub numberedAs : (number : ℕ) → Message → Message

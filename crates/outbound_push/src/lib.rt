@@ -71,7 +71,7 @@ pub fn push(
             answer: Done::Refused(limits::BEYOND_LIMIT),
         };
     }
-    let fragments = pending_queue::fragments(length, maximum);
+    let fragments = cutting::fragments(length, maximum);
     if lacks_room(q, cells, message.unordered, fragments) {
         return Pushed {
             queue: q,

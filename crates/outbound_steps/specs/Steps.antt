@@ -11,10 +11,11 @@ use Rattle.model.specs.declared.Stream.{Stream}
 use Rattle.model.specs.State.{Sender, Pending, at, laneOf, inRings, withPending, withNumbers, withRing}
 use Rattle.model.specs.Rings.{bytes}
 use Rattle.ring.specs.Held.{held}
-use Rattle.pending_queue.specs.declared.Added.{Added}
+use Rattle.cutting.specs.declared.Added.{Added}
 use Rattle.pending_queue.specs.declared.PendingQueue.{PendingQueue}
 use Rattle.pending_queue.specs.Queue.{pendingIn, both, counted-more}
-use Rattle.pending_queue.specs.Fragments.{fitsIn, withFragments, added, fits, withAdded}
+use Rattle.cutting.specs.Fragments.{fitsIn, withFragments, added, fits}
+use Rattle.pending_queue.specs.Adding.{withAdded}
 use Rattle.pending_queue.specs.Lifetimes.{startedEnd, started-bytes}
 use Rattle.outbound_queue.specs.declared.OutboundQueue.{OutboundQueue}
 use Rattle.outbound_queue.specs.Outbound.{Rings, remade, senderIn, CountedIn}

@@ -18,7 +18,7 @@ ghost use Rattle.model.specs.Rings.{head, lowered, bytes, givenUp};
 ghost use Rattle.model.specs.Flight.{found};
 ghost use Rattle.payload_queue.specs.Queue.{changed, filed};
 ghost use Rattle.payload_queue.specs.Model.{withFlight};
-ghost use Rattle.pending_queue.specs.Fragments.{fitsIn, withFragments};
+ghost use Rattle.cutting.specs.Fragments.{fitsIn, withFragments};
 ghost use Rattle.pending_queue.specs.Fronts.{popped};
 ghost use Rattle.pending_queue.specs.Runs.{runs, withoutRuns};
 ghost use Rattle.outbound_queue.specs.Outbound.{ringsIn, ringRoom, waiting, flying, senderOf, Counted};
@@ -134,7 +134,7 @@ pub fn add_fragments(
     let pending = q.pending;
     let inflight = q.inflight;
     if message.unordered {
-        let added = pending_queue::push_fragments(
+        let added = cutting::push_fragments(
             pending.unordered,
             &mut cells[0..k],
             message,
@@ -153,7 +153,7 @@ pub fn add_fragments(
             done: added.done,
         };
     }
-    let added = pending_queue::push_fragments(
+    let added = cutting::push_fragments(
         pending.ordered,
         &mut cells[k..k + k],
         message,

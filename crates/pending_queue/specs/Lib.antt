@@ -1,7 +1,7 @@
--- Queue: what a queue means, and its counter. Fronts: taking the head. Fragments: a message is cut and added. Lifetimes: they start from
+-- Queue: what a queue means, and its counter. Fronts: taking the head. Adding: fragments have joined a ring. Lifetimes: they start from
 -- the back. Runs: a message is removed from the front. Each has the definitions that contracts cite and the laws of callers and proofs.
 pub mod Queue
 pub mod Fronts
-pub mod Fragments
+pub mod Adding
 pub mod Lifetimes
 pub mod Runs

@@ -1,10 +1,8 @@
 // What is pending: two rings of chunks in lent cells, and which of them the message under way is in. The numbers and flags go by value,
 // and `pendingIn` of specs/ reads the model's `Pending` from them and from the cells, for every value at all. `bytes` is kept as the
 // chunks come and go: where it was their sum (`Counted`), it is so after each call.
-use limits::Moment;
-use model::Chunk;
+use cutting::Added;
 use model::Found;
-use model::Message;
 use ring::Ring;
 ghost use mathlib.Core.Path.{_≡_};
 ghost use mathlib.Core.Bool.{true};
@@ -14,15 +12,13 @@ ghost use lib.ListN.{length};
 ghost use Rattle.limits.specs.Limits.{clockMax};
 ghost use Rattle.model.specs.Lists.{some-of, last};
 ghost use Rattle.model.specs.State.{laneOf, isOf};
-ghost use Rattle.model.specs.Messages.{pieces, piece, cut};
 ghost use Rattle.model.specs.Rings.{laneAhead, head, lowered, ended, bytes};
 ghost use Rattle.model.specs.Flight.{found, hasStream};
 ghost use Rattle.demands.specs.States.{dropRun};
 ghost use Rattle.rows.specs.Walks.{takeWhile};
-ghost use Rattle.cells.specs.Slots.{roomOf};
 ghost use Rattle.ring.specs.Held.{held};
 ghost use Rattle.pending_queue.specs.Queue.{underWayOf, noPending, pendingIn, Counted};
-ghost use Rattle.pending_queue.specs.Fragments.{sizeOf, bytesOf, fits, added, withAdded};
+ghost use Rattle.pending_queue.specs.Adding.{withAdded};
 ghost use Rattle.pending_queue.specs.Fronts.{popped};
 ghost use Rattle.pending_queue.specs.Lifetimes.{startedEnd};
 ghost use Rattle.pending_queue.specs.Runs.{laterOf, runs, withoutRuns};
@@ -34,13 +30,6 @@ pub struct PendingQueue {
     pub bytes: u64,
     pub selected: bool,
     pub unordered_is_selected: bool,
-}
-
-// The ring with a message's fragments, the bytes that they bring, and whether there was room.
-pub struct Added {
-    pub ring: Ring,
-    pub bytes: u64,
-    pub done: bool,
 }
 
 pub struct Popped {
@@ -133,126 +122,6 @@ pub fn pop(queue: PendingQueue, unordered: &[u64], ordered: &[u64]) -> Popped
 }
 
 // ---- a message in fragments
-
-// How many there are: none where the maximum is 0.
-pub fn fragments(length: u32, maximum: u16) -> usize
-    ensures { λ r. ⌜ (r ≡ pieces length maximum) × (r ≤ 4295032829) ⌝ }
-{
-    if maximum == 0 {
-        return 0;
-    }
-    let most = maximum as u64;
-    ((length as u64 + (most - 1)) / most) as usize
-}
-
-// The bytes of all of them.
-fn fragments_bytes(length: u32, maximum: u16) -> u64
-    ensures { λ r. ⌜ r ≡ bytesOf length maximum ⌝ }
-{
-    if maximum == 0 {
-        return 0;
-    }
-    length as u64
-}
-
-// The bytes of the next one, where k are to come: the last has the rest.
-fn size(k: usize, maximum: u16, left: u32) -> u32
-    ensures { λ r. ⌜ r ≡ sizeOf k maximum left ⌝ }
-{
-    if k == 1 { left } else { maximum as u32 }
-}
-
-// What is left behind it.
-fn less(left: u32, maximum: u16) -> u32
-    ensures { λ r. ⌜ r ≡ left - maximum ⌝ }
-{
-    let most = maximum as u32;
-    if left < most { 0 } else { left - most }
-}
-
-fn fragment(message: Message, beginning: bool, ending: bool, offset: u64, length: u32) -> Chunk
-    ensures { λ r. ⌜ r ≡ piece message beginning ending offset length ⌝ }
-{
-    Chunk {
-        message: message,
-        beginning: beginning,
-        ending: ending,
-        offset: offset,
-        length: length,
-        since: Moment::Absent,
-        nsent: 0,
-        acked: false,
-        abandoned: false,
-        retransmit: false,
-    }
-}
-
-// Whether they are added: all or none.
-fn fitting(ring: Ring, cells: &[u64], maximum: u16, offset: u64, length: u32) -> bool
-    ensures { λ r. ⌜ r ≡ fits (roomOf (now (cells .entry))) maximum offset length (held ring (now (cells .entry))) ⌝ }
-{
-    if limits::OFFSET_MAX < offset {
-        return false;
-    }
-    ring::count(ring, cells) + fragments(length, maximum) <= cells::room(cells)
-}
-
-// Each fragment goes to the end of the ring.
-fn cut_into(
-    ring: Ring,
-    cells: &mut [u64],
-    message: Message,
-    maximum: u16,
-    offset: u64,
-    length: u32,
-) -> Ring
-    requires { ⌜ fits (roomOf (now cells)) maximum offset length (held ring (now cells)) ≡ true ⌝ }
-    ensures { λ r. ⌜ held r (now (cells .exit)) ≡ held ring (now (cells .entry)) ++ cut message true (pieces length maximum) maximum offset length ⌝ }
-{
-    let mut longer = ring;
-    let mut k = fragments(length, maximum);
-    let mut from = offset;
-    let mut left = length;
-    let mut first = true;
-    while 0 < k {
-        let bytes = size(k, maximum, left);
-        let chunk = fragment(message, first, k == 1, from, bytes);
-        let pushed = ring::push(longer, cells, chunk);
-        longer = pushed.ring;
-        from += maximum as u64;
-        left = less(left, maximum);
-        first = false;
-        k -= 1;
-    }
-    longer
-}
-
-// A message's fragments join the back of a ring. Where there is no room for all of them, or the offset is beyond its limit, nothing
-// changes: the caller has refused such a message before.
-pub fn push_fragments(
-    ring: Ring,
-    cells: &mut [u64],
-    message: Message,
-    maximum: u16,
-    offset: u64,
-    length: u32,
-) -> Added
-    ensures { λ r. ⌜ (held (r .ring) (now (cells .exit)) ≡ added (roomOf (now (cells .entry))) message maximum offset length (held ring (now (cells .entry)))) × (r .done ≡ fits (roomOf (now (cells .entry))) maximum offset length (held ring (now (cells .entry)))) × (bytes (held (r .ring) (now (cells .exit))) ≡ bytes (held ring (now (cells .entry))) + r .bytes) ⌝ }
-{
-    if !fitting(ring, cells, maximum, offset, length) {
-        return Added {
-            ring: ring,
-            bytes: 0,
-            done: false,
-        };
-    }
-    let longer = cut_into(ring, cells, message, maximum, offset, length);
-    Added {
-        ring: longer,
-        bytes: fragments_bytes(length, maximum),
-        done: true,
-    }
-}
 
 // The queue once fragments have joined one of its rings.
 pub fn with_fragments(queue: PendingQueue, unordered: bool, added: Added) -> PendingQueue

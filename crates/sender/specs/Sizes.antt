@@ -1,11 +1,11 @@
 -- 6,656 words are 64 streams and 256 slots in each ring and in the flight.
-use mathlib.Core.Path.{_≡_, refl, sym, ap, subst, _∙_}
+use mathlib.Core.Path.{_≡_}
 use mathlib.Core.List.{List}
 use Prim.Native.Nat.{ℕ, _-_, _/_, min}
 use native.Mathlib.Omega.{arith}
 use lib.ListN.{length}
-use Rattle.limits.specs.Limits.{Room, room01}
-use Rattle.rows.specs.Parts.{part, part-length}
+use Rattle.limits.specs.Limits.{room01}
+use Rattle.rows.specs.Parts.{part-length}
 use Rattle.cells.specs.Slots.{limit}
 use Rattle.sender_head.specs.Whole.{tableWords, halves, roomIn}
 

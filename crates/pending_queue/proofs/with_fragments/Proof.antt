@@ -1,5 +1,5 @@
 -- By the ring.
-use Rattle.pending_queue.specs.Fragments.{added-unordered, added-ordered}
+use Rattle.pending_queue.specs.Adding.{added-unordered, added-ordered}
 use borrow.Author.Needs.{needs}
 use Rattle.pending_queue.proofs.with_fragments.Statement.{statement}
 use Rattle.pending_queue.proofs.with_fragments.Tie as tie

@@ -1,5 +1,4 @@
 -- The head is new, whatever the cells are.
-use Prim.Native.Nat.{ℕ}
 use lib.ListN.{replicate}
 use borrow.Author.Needs.{needs}
 use Rattle.sender.proofs.new.Statement.{statement}

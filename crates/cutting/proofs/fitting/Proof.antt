@@ -8,10 +8,10 @@ use lib.Dec.{leb}
 use Rattle.model.specs.Messages.{pieces}
 use Rattle.cells.specs.Slots.{roomOf}
 use Rattle.ring.specs.Held.{held, held-limit}
-use Rattle.pending_queue.specs.Fragments.{fits-far, fits-near}
+use Rattle.cutting.specs.Fragments.{fits-far, fits-near}
 use borrow.Author.Needs.{needs}
-use Rattle.pending_queue.proofs.fitting.Statement.{statement}
-use Rattle.pending_queue.proofs.fitting.Tie as tie
+use Rattle.cutting.proofs.fitting.Statement.{statement}
+use Rattle.cutting.proofs.fitting.Tie as tie
 
 returns : tie.Need-returns
 returns c =

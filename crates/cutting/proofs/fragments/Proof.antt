@@ -5,8 +5,8 @@ use native.Mathlib.Nat.{div-zero, div-le-self}
 use native.Mathlib.Omega.{arith}
 use Rattle.model.specs.Messages.{pieces}
 use borrow.Author.Needs.{needs}
-use Rattle.pending_queue.proofs.fragments.Statement.{statement}
-use Rattle.pending_queue.proofs.fragments.Tie as tie
+use Rattle.cutting.proofs.fragments.Statement.{statement}
+use Rattle.cutting.proofs.fragments.Tie as tie
 
 returns : tie.Need-returns
 returns c =

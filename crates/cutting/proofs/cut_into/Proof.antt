@@ -10,10 +10,10 @@ use lib.Dec.{eqb}
 use Rattle.model.specs.Messages.{pieces, piece, cut}
 use Rattle.cells.specs.Slots.{roomOf, limit}
 use Rattle.ring.specs.Held.{held, pushed-room}
-use Rattle.pending_queue.specs.Fragments.{fits-parts, cut-turn, cut-done}
+use Rattle.cutting.specs.Fragments.{fits-parts, cut-turn, cut-done}
 use borrow.Author.Needs.{needs}
-use Rattle.pending_queue.proofs.cut_into.Statement.{statement}
-use Rattle.pending_queue.proofs.cut_into.Tie as tie
+use Rattle.cutting.proofs.cut_into.Statement.{statement}
+use Rattle.cutting.proofs.cut_into.Tie as tie
 
 abbrev Inv-loop : tie.InvT-loop
 Inv-loop cells₀ message maximum offset total longer₀ k₀ from₀ left₀ first₀ cells longer k from left first =

@@ -2,7 +2,7 @@
 use mathlib.Core.Path.{_≡_, refl, sym, ap, ap₂, _∙_}
 use mathlib.Core.Bool.{Bool, true, false, _&&_}
 use mathlib.Core.List.{List, [], _∷_, _++_, append-nil}
-use Prim.Native.Nat.{ℕ, zero, suc, _+_, _-_, _*_, _%_, _^_, _≤_, _<_}
+use Prim.Native.Nat.{ℕ, zero, suc, _+_, _-_, _*_, _≤_, _<_}
 use native.Mathlib.Nat.{suc-mul, div-zero, div-add-mod', mod-lt}
 use native.Mathlib.Omega.{arith}
 use lib.ListN.{length}
@@ -17,8 +17,6 @@ use Rattle.model.specs.State.{Pending, at, laneOf, withRing}
 use Rattle.model.specs.Messages.{pieces, piece, cut}
 use Rattle.model.specs.Rings.{bytes}
 use Rattle.ring.specs.Sums.{bytes-append}
-use Rattle.pending_queue.specs.declared.Added.{Added}
-use Rattle.pending_queue.specs.declared.PendingQueue.{PendingQueue}
 
 -- the offset is within its limit, and the ring has room for all fragments
 abbrev pub fits : (room maximum offset length : ℕ) → List Chunk → Bool
@@ -37,22 +35,7 @@ abbrev pub withFragments : (room : ℕ) → Message → (maximum offset length :
 withFragments room x m off n p =
     withRing (laneOf (x .unordered)) (p .underWay) (added room x m off n (at (laneOf (x .unordered)) p)) p
 
--- the queue whose ring has them
-abbrev pub withAdded : (unordered : Bool) → Added → PendingQueue → PendingQueue
-withAdded true d q =
-    record { unordered = d .ring; ordered = q .ordered; bytes = (q .bytes + d .bytes) % 2 ^ 64; selected = q .selected; «unordered_is_selected» = q .«unordered_is_selected» }
-withAdded false d q =
-    record { unordered = q .unordered; ordered = d .ring; bytes = (q .bytes + d .bytes) % 2 ^ 64; selected = q .selected; «unordered_is_selected» = q .«unordered_is_selected» }
-
 -- ---- the cases of each
-
--- `b` says which ring, and `k` are the bytes then
-module _ {b : Bool} {k : ℕ} (d : Added) (q : PendingQueue) (h : k ≡ (q .bytes + d .bytes) % 2 ^ 64) where
-  pub added-unordered : b ≡ true → record { unordered = d .ring; ordered = q .ordered; bytes = k; selected = q .selected; «unordered_is_selected» = q .«unordered_is_selected» } ≡ withAdded b d q
-  added-unordered e = (λ i. record { unordered = d .ring; ordered = q .ordered; bytes = h i; selected = q .selected; «unordered_is_selected» = q .«unordered_is_selected» }) ∙ ap (λ (t : Bool). withAdded t d q) (sym e)
-
-  pub added-ordered : b ≡ false → record { unordered = q .unordered; ordered = d .ring; bytes = k; selected = q .selected; «unordered_is_selected» = q .«unordered_is_selected» } ≡ withAdded b d q
-  added-ordered e = (λ i. record { unordered = q .unordered; ordered = d .ring; bytes = h i; selected = q .selected; «unordered_is_selected» = q .«unordered_is_selected» }) ∙ ap (λ (t : Bool). withAdded t d q) (sym e)
 
 module _ (room m o n : ℕ) (l : List Chunk) where
   pub fits-far : offsetMax < o → false ≡ fits room m o n l

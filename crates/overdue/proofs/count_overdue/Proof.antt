@@ -10,10 +10,10 @@ use Rattle.rows.specs.Turns.{read-turn, rest-none}
 use Rattle.rows.specs.Walks.{count}
 use Rattle.chunk_slot.specs.Chunks.{blankChunk}
 use Rattle.ring.specs.Held.{held}
 use Rattle.payload_queue.specs.Queue.{overdueEntry}
 use borrow.Author.Needs.{needs}
-use Rattle.payload_queue.proofs.count_overdue.Statement.{statement}
-use Rattle.payload_queue.proofs.count_overdue.Tie as tie
+use Rattle.overdue.proofs.count_overdue.Statement.{statement}
+use Rattle.overdue.proofs.count_overdue.Tie as tie
 
 abbrev Inv-loop : tie.InvT-loop
 Inv-loop ring cells clock pending n k₀ i₀ k i =

@@ -1,10 +1,10 @@
 -- By the variant.
 use mathlib.Core.Path.{sym, ap}
 use Rattle.payload_queue.specs.declared.Pending.{Pending}
 use Rattle.payload_queue.specs.Queue.{isAwaited}
 use borrow.Author.Needs.{needs}
-use Rattle.payload_queue.proofs.is_awaited.Statement.{statement}
-use Rattle.payload_queue.proofs.is_awaited.Tie as tie
+use Rattle.overdue.proofs.is_awaited.Statement.{statement}
+use Rattle.overdue.proofs.is_awaited.Tie as tie
 
 enum-told : tie.Need-enum-told
 enum-told c = search needs

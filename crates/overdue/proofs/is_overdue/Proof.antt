@@ -1,10 +1,10 @@
 -- The four cases of `overdueEntry`.
 use mathlib.Core.Path.{_∙_, sym}
 use borrow.Author.Tests.{not-true, not-false}
 use Rattle.payload_queue.specs.Cases.{not-abandoned, alive, overdue-open, overdue-acked}
 use borrow.Author.Needs.{needs}
-use Rattle.payload_queue.proofs.is_overdue.Statement.{statement}
-use Rattle.payload_queue.proofs.is_overdue.Tie as tie
+use Rattle.overdue.proofs.is_overdue.Statement.{statement}
+use Rattle.overdue.proofs.is_overdue.Tie as tie
 
 returns : tie.Need-returns
 returns c = let a = c .before .args in not-abandoned (a .clock) (a .pending) (a .chunk) (c .if1 .taken)

@@ -10,11 +10,11 @@ use Rattle.rows.specs.Turns.{read-turn, rest-none}
 use Rattle.rows.specs.Fills.{Filled, fill-start, fill-length, fill-all, fill-done, fill-as, fill-met}
 use Rattle.chunk_slot.specs.Chunks.{blankChunk}
 use Rattle.ring.specs.Held.{held}
 use Rattle.payload_queue.specs.Queue.{flightOf, overdueEntry, overdueTsns}
 use Rattle.payload_queue.specs.Listing.{length-tsns, no-room, fits, fill-room, fill-step}
 use borrow.Author.Needs.{needs}
-use Rattle.payload_queue.proofs.expired.Statement.{statement}
-use Rattle.payload_queue.proofs.expired.Tie as tie
+use Rattle.overdue.proofs.expired.Statement.{statement}
+use Rattle.overdue.proofs.expired.Tie as tie
 
 abbrev Inv-loop : tie.InvT-loop
 Inv-loop cells clock pending out₀ ring needed n tsn₀ k₀ i₀ out tsn k i =

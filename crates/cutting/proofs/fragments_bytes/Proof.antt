@@ -1,8 +1,8 @@
 -- All bytes are cut, unless the maximum is 0.
 use mathlib.Core.Path.{sym, ap}
-use Rattle.pending_queue.specs.Fragments.{bytesOf, bytes-some}
-use Rattle.pending_queue.proofs.fragments_bytes.Statement.{statement}
-use Rattle.pending_queue.proofs.fragments_bytes.Tie as tie
+use Rattle.cutting.specs.Fragments.{bytesOf, bytes-some}
+use Rattle.cutting.proofs.fragments_bytes.Statement.{statement}
+use Rattle.cutting.proofs.fragments_bytes.Tie as tie
 
 returns : tie.Need-returns
 returns c = let a = c .before .args in sym (ap (bytesOf (a .length)) (c .if1 .taken))

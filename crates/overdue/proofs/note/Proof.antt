@@ -7,8 +7,8 @@ use lib.ListN.{set}
 use borrow.Author.Tests.{not-true, not-false}
 use Rattle.model.specs.Lists.{if_then_else_}
 use borrow.Author.Needs.{needs}
-use Rattle.payload_queue.proofs.note.Statement.{statement}
-use Rattle.payload_queue.proofs.note.Tie as tie
+use Rattle.overdue.proofs.note.Statement.{statement}
+use Rattle.overdue.proofs.note.Tie as tie
 
 returns : tie.Need-returns
 returns c =

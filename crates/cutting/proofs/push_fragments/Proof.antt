@@ -7,10 +7,10 @@ use borrow.Author.Tests.{not-true, not-false}
 use Rattle.model.specs.Rings.{bytes}
 use Rattle.cells.specs.Slots.{roomOf}
 use Rattle.ring.specs.Held.{held}
-use Rattle.pending_queue.specs.Fragments.{added-none, added-all, added-bytes}
+use Rattle.cutting.specs.Fragments.{added-none, added-all, added-bytes}
 use borrow.Author.Needs.{needs}
-use Rattle.pending_queue.proofs.push_fragments.Statement.{statement}
-use Rattle.pending_queue.proofs.push_fragments.Tie as tie
+use Rattle.cutting.proofs.push_fragments.Statement.{statement}
+use Rattle.cutting.proofs.push_fragments.Tie as tie
 
 fitting-requires : tie.Need-fitting-requires
 fitting-requires c κs = search needs

@@ -3,8 +3,8 @@ use mathlib.Core.Path.{sym, ap}
 use mathlib.Core.Bool.{Bool}
 use borrow.Author.Tests.{eq-eqb, ne-eqb}
 use Rattle.model.specs.Lists.{if_then_else_}
-use Rattle.pending_queue.proofs.size.Statement.{statement}
-use Rattle.pending_queue.proofs.size.Tie as tie
+use Rattle.cutting.proofs.size.Statement.{statement}
+use Rattle.cutting.proofs.size.Tie as tie
 
 returns : tie.Need-returns
 returns c = let a = c .before .args in sym (ap (λ (b : Bool). if b then a .left else a .maximum) (eq-eqb (a .k) 1 (c .if1 .taken)))

@@ -1,0 +1,2 @@
+-- Fragments: what is added to a ring, and the loop that adds it.
+pub mod Fragments
