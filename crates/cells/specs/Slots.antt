@@ -50,10 +50,6 @@ module _ {A : Type 0} (f : List ℕ → A) where
   pub slots-past : (i : ℕ) (ws : List ℕ) → roomOf ws ≤ i → length (slotsOf f ws) ≤ i
   slots-past i ws h = omega (arith, length-slots ws)
 
-  -- two slices of one length have as many slots
-  pub length-same : (ws vs : List ℕ) → length ws ≡ length vs → length (slotsOf f ws) ≡ length (slotsOf f vs)
-  length-same ws vs e = length-slots ws ∙ ap (λ (n : ℕ). min (n / 8) limit) e ∙ sym (length-slots vs)
-
 -- ---- the words of a slot
 
 -- word k of slot i

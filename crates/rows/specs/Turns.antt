@@ -6,7 +6,7 @@ use native.Mathlib.Nat.{not-suc-le-zero, le-of-suc-le-suc}
 use native.Mathlib.Numerals.{add-one}
 use native.Mathlib.Omega.{arith}
 use mathlib.Core.List.{List, [], _∷_, _++_, map, append-nil}
-use lib.ListN.{length, getD, take, drop, length-append, length-map, length-take, length-drop, drop-of-length-le}
+use lib.ListN.{length, getD, take, drop, drop-of-length-le}
 use lib.Seq.{drop-cons, take-all}
 use Rattle.model.specs.Lists.{adjust}
 
@@ -43,9 +43,6 @@ module _ {A : Type 0} where
   Mapped f l i m = m ≡ mapped f i l
 
   module _ (f : A → A) (l : List A) (i : ℕ) {m : List A} (v : Mapped f l i m) where
-    pub map-length : length m ≡ length l
-    map-length = ap length v ∙ simp (length-append, length-map, length-take, length-drop) (omega arith)
-
     pub map-done : length l ≤ i → m ≡ map f l
     map-done h =
         v ∙ ap (λ (r : List A). map f r ++ drop i l) (take-all i l h) ∙ ap (λ (r : List A). map f l ++ r) (drop-of-length-le l h) ∙ append-nil (map f l)

@@ -39,12 +39,6 @@ module _ {A : Type 0} (p : A → Bool) {l rest : List A} {x : A} (q : l ≡ x �
   pub some-miss : p x ≡ false → some-of p l ≡ some-of p rest
   some-miss h = ap (some-of p) q ∙ ap (λ (b : Bool). b || some-of p rest) h
 
-  pub keep-hit : p x ≡ true → keep p l ≡ x ∷ keep p rest
-  keep-hit h = ap (keep p) q ∙ ap (λ (b : Bool). if b then (x ∷ keep p rest) else keep p rest) h
-
-  pub keep-miss : p x ≡ false → keep p l ≡ keep p rest
-  keep-miss h = ap (keep p) q ∙ ap (λ (b : Bool). if b then (x ∷ keep p rest) else keep p rest) h
-
   pub take-hit : p x ≡ true → takeWhile p l ≡ x ∷ takeWhile p rest
   take-hit h = ap (takeWhile p) q ∙ ap (λ (b : Bool). if b then (x ∷ takeWhile p rest) else []) h
 
@@ -56,12 +50,6 @@ module _ {A : Type 0} (p : A → Bool) {l rest : List A} {x : A} (q : l ≡ x �
 
   pub drop-miss : p x ≡ false → dropWhile p l ≡ l
   drop-miss h = ap (dropWhile p) q ∙ ap (λ (b : Bool). if b then dropWhile p rest else (x ∷ rest)) h ∙ sym q
-
-  pub count-hit : p x ≡ true → count p l ≡ 1 + count p rest
-  count-hit h = ap (count p) q ∙ ap (λ (b : Bool). (if b then 1 else 0) + count p rest) h
-
-  pub count-miss : p x ≡ false → count p l ≡ 0 + count p rest
-  count-miss h = ap (count p) q ∙ ap (λ (b : Bool). (if b then 1 else 0) + count p rest) h
 
 -- ---- a sum over those that pass, as a loop over all of them has it
 module _ {A : Type 0} (p : A → Bool) (w : A → ℕ) where
