@@ -1,7 +1,7 @@
 -- The table of coded calls: the first word is a row's number, the next four are its arguments.
 use mathlib.Core.Bool.{Bool}
 use mathlib.Core.List.{List, [], _∷_}
-use Prim.Native.Nat.{ℕ, _-_, _%_, _^_, min}
+use Prim.Native.Nat.{ℕ, _-_, _%_, _^_, _≤_, min}
 use lib.ListN.{getD}
 use lib.IntN.{ℤ, pos, negsuc}
 use lib.Dec.{ltb, eqb}
@@ -66,3 +66,8 @@ callOf w = callIn (getD w 0 0) (getD w 1 0) (getD w 2 0) (getD w 3 0) (getD w 4 
 abbrev pub coded : Coded → Model.Call
 coded (Coded.Plain k) = meant k
 coded (Coded.Expired now n) = Model.Ask (Model.ExpiredInflight now n)
+
+-- a listing's room is at most 256
+abbrev pub Roomy : Coded → Type 0
+Roomy (Coded.Plain k) = Unit {0}
+Roomy (Coded.Expired now n) = n ≤ 256

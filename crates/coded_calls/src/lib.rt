@@ -6,7 +6,7 @@ ghost use mathlib.Core.Path.{_≡_};
 ghost use Prim.Native.Nat.{_%_};
 ghost use lib.ListN.{getD};
 ghost use Rattle.calls.specs.Meant.{asked, meant};
-ghost use Rattle.coded_calls.specs.Coded.{amountOf, question, change, coded, callOf};
+ghost use Rattle.coded_calls.specs.Coded.{amountOf, question, change, coded, Roomy, callOf};
 
 // The list of expired TSNs needs a list that is lent with it, so it is apart.
 pub enum Coded {
@@ -135,7 +135,7 @@ fn word(words: &[u64], i: usize) -> u64
 
 // The call that the words are.
 pub fn read(words: &[u64]) -> Coded
-    ensures { λ r. ⌜ coded r ≡ callOf (now (words .entry)) ⌝ }
+    ensures { λ r. ⌜ (coded r ≡ callOf (now (words .entry))) × Roomy r ⌝ }
 {
     let row = word(words, 0);
     let a = word(words, 1);

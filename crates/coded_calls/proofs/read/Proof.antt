@@ -32,7 +32,7 @@ returns : tie.Need-returns
 returns c =
     let w = now (c .before .before .before .before .before .before .before .before .args .words) in
     let h = ap (λ (row : ℕ). row) (c .before .before .before .before .before .before .word .ensures) in
-    is-change w (subst (λ (k : ℕ). k < 14) h (c .before .before .before .if1 .taken)) (c .change .ensures ∙ all-words (c .before .before .before .before .before .before .word .ensures) (c .before .before .before .before .before .word2 .ensures) (c .before .before .before .before .word3 .ensures) (c .before .before .word4 .ensures) (c .before .word5 .ensures))
+    (is-change w (subst (λ (k : ℕ). k < 14) h (c .before .before .before .if1 .taken)) (c .change .ensures ∙ all-words (c .before .before .before .before .before .before .word .ensures) (c .before .before .before .before .before .word2 .ensures) (c .before .before .before .before .word3 .ensures) (c .before .before .word4 .ensures) (c .before .word5 .ensures)), tt)
 
 question-requires : tie.Need-question-requires
 question-requires c κs = search needs
@@ -42,7 +42,7 @@ returns-2 c =
     let w = now (c .before .before .before .before .before .before .before .args .words) in
     let e = c .before .before .before .before .before .word .ensures in
     let f = c .before .before .before .before .word2 .ensures in
-    is-question w (omega (arith, e, c .before .before .if1 .left)) (omega (arith, e, c .before .if2 .taken)) (c .question .ensures ∙ ap₂ (λ (k a : ℕ). question (k - 14) a) e f)
+    (is-question w (omega (arith, e, c .before .before .if1 .left)) (omega (arith, e, c .before .if2 .taken)) (c .question .ensures ∙ ap₂ (λ (k a : ℕ). question (k - 14) a) e f), tt)
 
 returns-3 : tie.Need-returns-3
 returns-3 c =
@@ -50,7 +50,7 @@ returns-3 c =
     let e = c .before .before .before .before .before .word .ensures in
     let f = c .before .before .before .before .word2 .ensures in
     let g = c .before .before .before .word3 .ensures in
-    ap (λ (a : ℕ). Ask (ExpiredInflight a (c .before .before .before .word3 .result))) f ∙ is-listing w (c .before .before .before .word3 .result) (omega (arith, e, c .before .if2 .left)) (omega (arith, g, c .if3 .taken))
+    (ap (λ (a : ℕ). Ask (ExpiredInflight a (c .before .before .before .word3 .result))) f ∙ is-listing w (c .before .before .before .word3 .result) (omega (arith, e, c .before .if2 .left)) (omega (arith, g, c .if3 .taken)), omega (arith, c .if3 .taken))
 
 returns-4 : tie.Need-returns-4
 returns-4 c =
@@ -58,7 +58,7 @@ returns-4 c =
     let e = c .before .before .before .before .before .word .ensures in
     let f = c .before .before .before .before .word2 .ensures in
     let g = c .before .before .before .word3 .ensures in
-    ap (λ (a : ℕ). Ask (ExpiredInflight a 256)) f ∙ is-listing w 256 (omega (arith, e, c .before .if2 .left)) (omega (arith, g, c .if3 .left))
+    (ap (λ (a : ℕ). Ask (ExpiredInflight a 256)) f ∙ is-listing w 256 (omega (arith, e, c .before .if2 .left)) (omega (arith, g, c .if3 .left)), omega arith)
 
 pub read-spec : {M : Type 1} → statement M
 read-spec =

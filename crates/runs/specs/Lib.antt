@@ -1,0 +1,6 @@
+-- Runs: lists of calls and of answers as words. Listings: a listing as words. Going: what holds between two calls of a run. Claims: of further
+-- calls.
+pub mod Runs
+pub mod Listings
+pub mod Going
+pub mod Claims
