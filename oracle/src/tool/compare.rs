@@ -1,0 +1,116 @@
+//! Runs scripts through both sides and compares every line.
+
+use std::fs;
+use std::io;
+use std::path::{Path, PathBuf};
+use std::sync::mpsc::{Receiver, sync_channel};
+use std::thread;
+use std::time::Instant;
+
+use crate::generator::{Script, script};
+use crate::long::LONG;
+use crate::options::Options;
+use crate::profiles::PROFILES;
+use crate::script::{calls, first_difference, lines};
+use crate::shrink::{differs_at, shrunk};
+use crate::sides::{Side, run_both};
+use crate::tally::Tally;
+
+/// Calls that go through one run of the two processes, at least.
+const BATCH: u64 = 40_000;
+
+/// Whether nothing differed.
+pub fn compare(options: &Options, oracle: &Side, port: &Side, found: &Path) -> io::Result<bool> {
+    let start = Instant::now();
+    let mut tally = Tally::new();
+    let mut number = 0;
+    for batch in batches(options) {
+        let text: String = batch.iter().map(|script| script.text.as_str()).collect();
+        let (ours, theirs) = run_both(oracle, port, text.as_bytes())?;
+        if ours != theirs {
+            report(options, oracle, port, found, &batch, number)?;
+            return Ok(false);
+        }
+        tally.add(text.as_bytes(), &ours.text);
+        number += batch.len();
+    }
+    println!("{tally} compared in {number} scripts, seed {}: nothing differs", options.seed);
+    println!("{:.1} s", start.elapsed().as_secs_f64());
+    for missing in tally.missing() {
+        println!("never seen: {missing}");
+    }
+    Ok(true)
+}
+
+/// The scripts in batches; the next ones are made while the sides run.
+fn batches(options: &Options) -> Receiver<Vec<Script>> {
+    let (give, take) = sync_channel(1);
+    let options = options.clone();
+    thread::spawn(move || {
+        let short = (0..options.scripts).map(|number| script(options.seed, number, &PROFILES, options.calls));
+        let long = LONG.into_iter().filter(|_| options.long).map(|make| make(options.seed, options.calls));
+        let mut batch = Vec::new();
+        let mut made = 0;
+        for script in short.chain(long) {
+            made += calls(script.text.as_bytes());
+            batch.push(script);
+            if made >= BATCH {
+                made = 0;
+                // Nobody listens once a difference is found.
+                if give.send(std::mem::take(&mut batch)).is_err() {
+                    return;
+                }
+            }
+        }
+        drop(give.send(batch));
+    });
+    take
+}
+
+/// Finds the script of a batch that differs, shrinks it, keeps it and shows it.
+fn report(
+    options: &Options,
+    oracle: &Side,
+    port: &Side,
+    found: &Path,
+    batch: &[Script],
+    first_number: usize,
+) -> io::Result<()> {
+    for (place, script) in batch.iter().enumerate() {
+        let Some(line) = differs_at(oracle, port, script.text.as_bytes())? else { continue };
+        let number = first_number + place;
+        println!("DIFFERS: script {number} ({}) of seed {}, line {}", script.name, options.seed, line + 1);
+        let name = format!("seed-{}-calls-{}-script-{number}", options.seed, options.calls);
+        return keep(oracle, port, found, &name, script.text.as_bytes());
+    }
+    println!("DIFFERS: only where several scripts go through one process; scripts from {first_number} on");
+    let text: String = batch.iter().map(|script| script.text.as_str()).collect();
+    keep(oracle, port, found, &format!("seed-{}-from-{first_number}", options.seed), text.as_bytes())
+}
+
+fn keep(oracle: &Side, port: &Side, found: &Path, name: &str, whole: &[u8]) -> io::Result<()> {
+    let script = shrunk(oracle, port, whole)?;
+    fs::create_dir_all(found)?;
+    let path: PathBuf = found.join(format!("{name}.txt"));
+    fs::write(found.join(format!("{name}-whole.txt")), whole)?;
+    fs::write(&path, &script)?;
+    println!("shrunk from {} to {} lines, kept in {}:", lines(whole).count(), lines(&script).count(), path.display());
+    println!("{}", String::from_utf8_lossy(&script));
+    let (ours, theirs) = run_both(oracle, port, &script)?;
+    if let Some(difference) = first_difference(&script, &ours.text, &theirs.text) {
+        println!("line {}: {}", difference.line + 1, String::from_utf8_lossy(&difference.call));
+        show("oracle", difference.one.as_deref());
+        show("port", difference.other.as_deref());
+    }
+    for (side, answers) in [("oracle", &ours), ("port", &theirs)] {
+        if let Some(trouble) = &answers.trouble {
+            println!("{side} ended badly: {trouble}");
+        }
+    }
+    Ok(())
+}
+
+fn show(side: &str, answer: Option<&[u8]>) {
+    let text = answer.map_or("(no answer)\n".into(), String::from_utf8_lossy);
+    print!("{side}:\n{text}");
+}
