@@ -58,7 +58,7 @@ fn run() -> Result<bool, String> {
             compare::compare(&options, &oracle, &port, &oracle_folder.join("found"))
         }
         "faults" => faults::faults(&options(400, 500, 1).read(words)?, &program),
-        "sample" => sample::sample(&options(12, 60, 7).read(words)?, &oracle, &oracle_folder.join("sample.txt")),
+        "sample" => sample::sample(&options(12, 30, 20).read(words)?, &oracle, &oracle_folder.join("sample.txt")),
         _ => return Err(format!("unknown command {command}")),
     };
     done.map_err(|error| error.to_string())

@@ -128,7 +128,8 @@ pub const PROFILES: [&Profile; 12] = [
     &Profile {
         name: "streams",
         actions: &[
-            (6, Generator::open_any),
+            (4, Generator::open_any),
+            (1, Generator::open_many),
             (3, Generator::change_reliability),
             (4, Generator::threshold),
             (6, Generator::write),
@@ -137,7 +138,7 @@ pub const PROFILES: [&Profile; 12] = [
             (2, Generator::pop_some),
             (2, Generator::question),
         ],
-        streams: 64,
+        streams: 20,
         payloads: MIXED,
         kinds: ANY_KIND,
         last_numbers: None,
@@ -162,7 +163,7 @@ pub const PROFILES: [&Profile; 12] = [
     },
     &Profile {
         name: "timers",
-        actions: &[(1, Generator::timer)],
+        actions: &[(8, Generator::timer), (2, Generator::back_off), (2, Generator::counted_expiry)],
         streams: 1,
         payloads: &[1200],
         kinds: &[0],
@@ -170,7 +171,12 @@ pub const PROFILES: [&Profile; 12] = [
     },
     &Profile {
         name: "estimator",
-        actions: &[(1, Generator::estimate)],
+        actions: &[
+            (6, Generator::measure_some),
+            (2, Generator::estimate),
+            (1, Generator::make_estimator),
+            (1, Generator::frozen_estimator),
+        ],
         streams: 1,
         payloads: &[1200],
         kinds: &[0],
@@ -230,6 +236,16 @@ impl Generator {
             return self.say(format_args!("open {sid} {maximum}"));
         }
         self.open_stream(MIXED, ANY_KIND);
+    }
+
+    /// Up to the last place of the table, and one more try of a stream that is open and of one that is not.
+    fn open_many(&mut self) {
+        for _ in 0..self.random.between(1, 64) {
+            self.open_stream(MIXED, ANY_KIND);
+        }
+        let sid = self.sid();
+        self.say(format_args!("open {sid} 1200"));
+        self.say(format_args!("open 300 1200"));
     }
 
     fn change_reliability(&mut self) {
@@ -426,6 +442,33 @@ impl Generator {
         }
     }
 
+    /// Counts around 31 with intervals that rto_max does not cap.
+    fn back_off(&mut self) {
+        let (timer, now) = (self.random.below(6), self.now);
+        if self.random.one_in(3) {
+            self.say(format_args!("timers 8 10 {U32_MAX}"));
+        }
+        let count = self.random.pick(&[0, 1, 5, 6, 28, 29, 30, 31, 32, 33]);
+        let interval = self.random.pick(&[0, 0, 1, 2, 3, 1000, U32_MAX >> (count % 32)]);
+        self.say(format_args!("setcount {timer} {count}"));
+        self.say(format_args!("tstart {timer} {now} {interval}"));
+        self.say(format_args!("tget {timer}"));
+    }
+
+    /// An expiry at a maximum or at the last count, sometimes suppressed.
+    fn counted_expiry(&mut self) {
+        let (timer, now) = (self.random.below(6), self.now);
+        let count = self.random.pick(&[0, 1, 7, 8, 9, 10, U32_MAX - 1, U32_MAX]);
+        self.say(format_args!("tset {timer} {now}"));
+        self.say(format_args!("setcount {timer} {count}"));
+        if self.random.one_in(3) {
+            self.say(format_args!("tsuppress {timer}"));
+        }
+        for _ in 0..self.random.between(1, 3) {
+            self.say(format_args!("texpired {timer} {now}"));
+        }
+    }
+
     fn estimate(&mut self) {
         match self.random.below(30) {
             0 => self.make_estimator(),
@@ -456,7 +499,26 @@ impl Generator {
             _ => {}
         }
         self.say(format_args!("rto {initial} {min} {max}"));
-        self.say(format_args!("setrto {initial} 0"));
+        if self.random.one_in(3) {
+            self.say(format_args!("measure 1"));
+            self.say(format_args!("rreset"));
+            self.say(format_args!("getrto"));
+        }
+    }
+
+    /// Nothing changes while `no_update` holds.
+    fn frozen_estimator(&mut self) {
+        let (rto, rtt) = (self.random.below(90_000), self.random.below(3000));
+        self.say(format_args!("setrto {rto} 1"));
+        for _ in 0..3 {
+            match self.random.below(3) {
+                0 => self.say(format_args!("measure {rtt}")),
+                1 => self.say(format_args!("rreset")),
+                _ => self.say(format_args!("getrto")),
+            }
+        }
+        self.say(format_args!("getrto"));
+        self.say(format_args!("setrto {} 0", rto / 2));
     }
 
     /// Measurements of one size, some of them equal to what is expected: then rttvar falls.

@@ -8,7 +8,7 @@ use std::thread;
 use std::time::Duration;
 
 /// A side that has not ended by then is ended.
-const PATIENCE: Duration = Duration::from_secs(300);
+const PATIENCE: Duration = Duration::from_secs(60);
 
 pub struct Side {
     program: PathBuf,

@@ -704,7 +704,8 @@ fn srtt_rounded(o: &mut Oracle, call: &Call, out: &mut String) -> Option<Answer>
 
 fn rttvar_in_another_order(o: &mut Oracle, call: &Call, out: &mut String) -> Option<Answer> {
     let rtt = later_measurement(o, call)?;
-    let rttvar = 0.75 * o.rto.rttvar + 0.25 * o.rto.srtt.abs_diff(rtt) as f64;
+    // The same number but for the rounding.
+    let rttvar = o.rto.rttvar + (o.rto.srtt.abs_diff(rtt) as f64 - o.rto.rttvar) / 4.0;
     estimate(o, smoothed(o.rto.srtt, rtt), rttvar, out)
 }
 
