@@ -32,6 +32,10 @@ pub fn compare(options: &Options, oracle: &Side, port: &Side, found: &Path) -> i
             return Ok(false);
         }
         tally.add(text.as_bytes(), &ours.text);
+        if let Some(odd) = tally.odd() {
+            println!("BOTH ODD: {odd}");
+            return Ok(false);
+        }
         number += batch.len();
     }
     println!("{tally} compared in {number} scripts, seed {}: nothing differs", options.seed);

@@ -9,6 +9,8 @@ use crate::random::Random;
 pub const CLOCK_MAX: u64 = 1 << 40;
 pub const U32_MAX: u64 = u32::MAX as u64;
 const RING: u64 = 256;
+/// More than rings and flight can hold.
+pub const NO_CROWD: usize = 1000;
 /// Lines of `state` that are written for nothing but the calls since the last.
 const STATE_EVERY: usize = 30;
 
@@ -27,8 +29,12 @@ pub struct Profile {
     pub payloads: &'static [u64],
     /// Reliability kinds; 2 is Timed.
     pub kinds: &'static [u8],
+    /// Whether streams are unordered: 0, 1, or either.
+    pub unordered: &'static [u8],
     /// First message number, counted back from the last one; None for any.
     pub last_numbers: Option<u64>,
+    /// Chunks pending and in flight above which some are sent and popped, so that things go on.
+    pub crowd: usize,
 }
 
 pub type Action = fn(&mut Generator);
@@ -37,6 +43,8 @@ pub struct Generator {
     pub random: Random,
     pub oracle: Oracle,
     pub now: u64,
+    /// Whether messages often take all the room of their ring.
+    crowded: bool,
     text: String,
     calls: usize,
     since_state: usize,
@@ -58,6 +66,7 @@ impl Generator {
             random,
             oracle: Oracle::new(),
             now: 0,
+            crowded: false,
             text: String::new(),
             calls: 0,
             since_state: 0,
@@ -73,11 +82,12 @@ impl Generator {
         self.say(format_args!("timers 8 10 60000"));
         self.say(format_args!("rto 3000 1000 60000"));
         for _ in 0..self.random.between(1, profile.streams.max(1)) {
-            self.open_stream(profile.payloads, profile.kinds);
+            self.open_stream(profile.payloads, profile.kinds, profile.unordered);
         }
     }
 
     pub fn go_on(&mut self, profile: &Profile, calls: usize) {
+        self.crowded = profile.crowd >= NO_CROWD;
         let weights: u64 = profile.actions.iter().map(|(weight, _)| weight).sum();
         while self.calls < calls {
             let mut left = self.random.below(weights);
@@ -87,7 +97,18 @@ impl Generator {
                 here
             });
             chosen.expect("the weights sum up").1(self);
+            self.relieve(profile.crowd);
             self.state_if_due();
+        }
+    }
+
+    fn relieve(&mut self, crowd: usize) {
+        let (unordered, ordered) = self.oracle.rings();
+        if unordered + ordered > crowd && self.random.one_in(2) {
+            self.send_some();
+        }
+        if self.oracle.flight().1 > crowd && self.random.one_in(2) {
+            self.pop_some();
         }
     }
 
@@ -172,6 +193,14 @@ impl Generator {
         self.now
     }
 
+    /// A clock at the deadline of the chunk that is sent next, or beside it. The script's time stays: it goes back then.
+    pub fn clock_at_the_head(&mut self) -> u64 {
+        match self.oracle.head().1 {
+            Some(deadline) if !self.random.one_in(4) => near(&mut self.random, deadline).min(CLOCK_MAX),
+            _ => self.clock(),
+        }
+    }
+
     /// A TSN: in flight, at its ends, beside them, or any.
     pub fn tsn(&mut self) -> u32 {
         let (oldest, entries, next) = self.oracle.flight();
@@ -221,6 +250,7 @@ impl Generator {
         let room = RING - used as u64;
         let fragments = self.random.between(1, 6);
         let length = match self.random.below(40) {
+            14..18 if !self.crowded && !self.random.one_in(8) => maximum * fragments,
             0..2 => 0,
             2..5 => 1,
             5..8 => maximum * fragments,
@@ -243,19 +273,18 @@ impl Generator {
 
     // ---- actions on the sender
 
-    pub fn open_stream(&mut self, payloads: &[u64], kinds: &[u8]) {
+    pub fn open_stream(&mut self, payloads: &[u64], kinds: &[u8], unordered: &[u8]) {
         let sid = match self.random.below(8) {
             0 => self.random.pick(&[0, u16::MAX]),
             _ => self.random.below(200) as u16,
         };
         let maximum = self.random.pick(payloads);
         self.say(format_args!("open {sid} {maximum}"));
-        self.set_reliability(sid, kinds);
+        self.set_reliability(sid, kinds, unordered);
     }
 
-    pub fn set_reliability(&mut self, sid: u16, kinds: &[u8]) {
-        let unordered = self.random.below(2);
-        let kind = self.random.pick(kinds);
+    pub fn set_reliability(&mut self, sid: u16, kinds: &[u8], unordered: &[u8]) {
+        let (kind, unordered) = (self.random.pick(kinds), self.random.pick(unordered));
         let value = self.random.pick(&[0, 1, 2, 3, 5, 8, 20, 100, 1000, U32_MAX]);
         self.say(format_args!("rel {sid} {unordered} {kind} {value}"));
     }

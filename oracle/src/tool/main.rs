@@ -1,5 +1,5 @@
-//! `tool compare`, `tool faults`, `tool sample`: see README.md. The shell scripts beside it give it its first
-//! arguments: the folder of this program's siblings, and the folder `oracle`.
+//! `tool ROOT compare|faults|sample [OPTIONS]`, ROOT being the project's: the shell scripts of those names call it.
+//! README.md says what each does.
 
 mod compare;
 mod faults;
@@ -22,7 +22,6 @@ use options::Options;
 use sides::Side;
 
 fn main() -> ExitCode {
-    // A panic of the Rust is an answer that the oracle catches; it need not be told on standard error.
     match run() {
         Ok(true) => ExitCode::SUCCESS,
         Ok(false) => ExitCode::from(1),
@@ -53,12 +52,12 @@ fn run() -> Result<bool, String> {
     };
     let done = match command.as_str() {
         "compare" => {
-            let options = options(1000, 2000, 1).read(words)?;
+            let options = options(2500, 2000, 1).read(words)?;
             let port = Side::new(options.port.clone(), &[]);
             compare::compare(&options, &oracle, &port, &oracle_folder.join("found"))
         }
         "faults" => faults::faults(&options(400, 500, 1).read(words)?, &program),
-        "sample" => sample::sample(&options(12, 30, 20).read(words)?, &oracle, &oracle_folder.join("sample.txt")),
+        "sample" => sample::sample(&options(13, 30, 1).read(words)?, &oracle, &oracle_folder.join("sample.txt")),
         _ => return Err(format!("unknown command {command}")),
     };
     done.map_err(|error| error.to_string())

@@ -1,14 +1,31 @@
 //! The kinds of scripts: what each does most, and at which places it aims.
 
-use crate::generator::{CLOCK_MAX, Generator, Profile, U32_MAX, near};
+use crate::generator::{Action, CLOCK_MAX, Generator, NO_CROWD, Profile, U32_MAX, near};
 
 /// Small payload maxima make many fragments of few bytes.
 const SMALL: &[u64] = &[1, 2, 3, 7, 16, 100, 256];
 const MIXED: &[u64] = &[1, 5, 64, 255, 256, 1200, 65_514, 65_515];
 const ANY_KIND: &[u8] = &[0, 1, 2, 2, 2, 3, 255];
 const TIMED: &[u8] = &[2];
+const EITHER: &[u8] = &[0, 1];
+const CROWD: usize = 60;
 
-pub const PROFILES: [&Profile; 12] = [
+const LIFETIMES: &[(u64, Action)] = &[
+    (10, Generator::write),
+    (4, Generator::send),
+    (2, Generator::lifetimes),
+    (10, Generator::expire),
+    (2, Generator::expire_some),
+    (4, Generator::tail),
+    (2, Generator::popped_prefix),
+    (4, Generator::list_expired),
+    (2, Generator::acknowledge),
+    (2, Generator::pop_some),
+    (1, Generator::abandon),
+    (1, Generator::question),
+];
+
+pub const PROFILES: [&Profile; 13] = [
     &Profile {
         name: "mixed",
         actions: &[
@@ -16,7 +33,8 @@ pub const PROFILES: [&Profile; 12] = [
             (10, Generator::send),
             (3, Generator::send_some),
             (5, Generator::acknowledge),
-            (5, Generator::pop),
+            (3, Generator::pop),
+            (2, Generator::pop_some),
             (2, Generator::abandon),
             (2, Generator::expire),
             (2, Generator::tail),
@@ -36,7 +54,9 @@ pub const PROFILES: [&Profile; 12] = [
         streams: 6,
         payloads: MIXED,
         kinds: ANY_KIND,
+        unordered: EITHER,
         last_numbers: None,
+        crowd: CROWD,
     },
     &Profile {
         name: "full-rings",
@@ -57,7 +77,9 @@ pub const PROFILES: [&Profile; 12] = [
         streams: 5,
         payloads: SMALL,
         kinds: ANY_KIND,
+        unordered: EITHER,
         last_numbers: None,
+        crowd: NO_CROWD,
     },
     &Profile {
         name: "full-flight",
@@ -66,6 +88,7 @@ pub const PROFILES: [&Profile; 12] = [
             (2, Generator::fill_ring),
             (3, Generator::send),
             (2, Generator::fill_flight),
+            (2, Generator::cut_off),
             (3, Generator::pop),
             (1, Generator::pop_some),
             (3, Generator::acknowledge),
@@ -80,29 +103,29 @@ pub const PROFILES: [&Profile; 12] = [
         streams: 4,
         payloads: SMALL,
         kinds: ANY_KIND,
+        unordered: EITHER,
         last_numbers: None,
+        crowd: NO_CROWD,
     },
     &Profile {
         name: "lifetimes",
-        actions: &[
-            (8, Generator::write),
-            (5, Generator::send),
-            (1, Generator::send_some),
-            (4, Generator::lifetimes),
-            (5, Generator::expire),
-            (2, Generator::expire_some),
-            (4, Generator::tail),
-            (4, Generator::list_expired),
-            (2, Generator::acknowledge),
-            (2, Generator::pop),
-            (1, Generator::abandon),
-            (1, Generator::change_reliability),
-            (1, Generator::question),
-        ],
+        actions: LIFETIMES,
         streams: 5,
         payloads: &[1, 3, 10, 100],
         kinds: TIMED,
+        unordered: EITHER,
         last_numbers: None,
+        crowd: 40,
+    },
+    &Profile {
+        name: "ordered-lifetimes",
+        actions: LIFETIMES,
+        streams: 3,
+        payloads: &[1, 3, 10, 100],
+        kinds: TIMED,
+        unordered: &[0],
+        last_numbers: None,
+        crowd: 40,
     },
     &Profile {
         name: "abandoned",
@@ -111,10 +134,12 @@ pub const PROFILES: [&Profile; 12] = [
             (5, Generator::send),
             (2, Generator::send_some),
             (3, Generator::half_sent),
+            (2, Generator::popped_prefix),
+            (1, Generator::cut_off),
             (4, Generator::abandon),
             (3, Generator::acknowledge),
             (3, Generator::pop),
-            (1, Generator::pop_some),
+            (3, Generator::pop_some),
             (2, Generator::tail),
             (2, Generator::mark_all),
             (3, Generator::list_expired),
@@ -123,7 +148,9 @@ pub const PROFILES: [&Profile; 12] = [
         streams: 4,
         payloads: &[2, 10, 50],
         kinds: ANY_KIND,
+        unordered: EITHER,
         last_numbers: None,
+        crowd: CROWD,
     },
     &Profile {
         name: "streams",
@@ -141,7 +168,9 @@ pub const PROFILES: [&Profile; 12] = [
         streams: 20,
         payloads: MIXED,
         kinds: ANY_KIND,
+        unordered: EITHER,
         last_numbers: None,
+        crowd: CROWD,
     },
     &Profile {
         name: "last-numbers",
@@ -159,7 +188,9 @@ pub const PROFILES: [&Profile; 12] = [
         streams: 3,
         payloads: &[1, 10, 1200],
         kinds: ANY_KIND,
+        unordered: EITHER,
         last_numbers: Some(30),
+        crowd: CROWD,
     },
     &Profile {
         name: "timers",
@@ -167,7 +198,9 @@ pub const PROFILES: [&Profile; 12] = [
         streams: 1,
         payloads: &[1200],
         kinds: &[0],
+        unordered: EITHER,
         last_numbers: None,
+        crowd: CROWD,
     },
     &Profile {
         name: "estimator",
@@ -180,7 +213,9 @@ pub const PROFILES: [&Profile; 12] = [
         streams: 1,
         payloads: &[1200],
         kinds: &[0],
+        unordered: EITHER,
         last_numbers: None,
+        crowd: CROWD,
     },
     &Profile {
         name: "limits",
@@ -197,7 +232,9 @@ pub const PROFILES: [&Profile; 12] = [
         streams: 3,
         payloads: MIXED,
         kinds: ANY_KIND,
+        unordered: EITHER,
         last_numbers: None,
+        crowd: NO_CROWD,
     },
     &Profile {
         name: "steady",
@@ -214,7 +251,9 @@ pub const PROFILES: [&Profile; 12] = [
         streams: 8,
         payloads: &[1200],
         kinds: ANY_KIND,
+        unordered: EITHER,
         last_numbers: None,
+        crowd: CROWD,
     },
     &Profile {
         name: "no-calls",
@@ -222,7 +261,9 @@ pub const PROFILES: [&Profile; 12] = [
         streams: 3,
         payloads: MIXED,
         kinds: ANY_KIND,
+        unordered: EITHER,
         last_numbers: None,
+        crowd: CROWD,
     },
 ];
 
@@ -235,13 +276,13 @@ impl Generator {
             let maximum = self.random.pick(&[0, 1, 65_515, 65_516, 65_535, 65_536, U32_MAX]);
             return self.say(format_args!("open {sid} {maximum}"));
         }
-        self.open_stream(MIXED, ANY_KIND);
+        self.open_stream(MIXED, ANY_KIND, EITHER);
     }
 
     /// Up to the last place of the table, and one more try of a stream that is open and of one that is not.
     fn open_many(&mut self) {
         for _ in 0..self.random.between(1, 64) {
-            self.open_stream(MIXED, ANY_KIND);
+            self.open_stream(MIXED, ANY_KIND, EITHER);
         }
         let sid = self.sid();
         self.say(format_args!("open {sid} 1200"));
@@ -250,7 +291,7 @@ impl Generator {
 
     fn change_reliability(&mut self) {
         let sid = self.sid();
-        self.set_reliability(sid, ANY_KIND);
+        self.set_reliability(sid, ANY_KIND, EITHER);
     }
 
     /// One message that takes all the room of its ring, or all but a little; then some that take the rest.
@@ -280,7 +321,7 @@ impl Generator {
         }
     }
 
-    fn send_some(&mut self) {
+    pub fn send_some(&mut self) {
         let times = self.random.between(2, 20);
         self.send_times(times);
     }
@@ -315,9 +356,15 @@ impl Generator {
         self.say(format_args!("pop {tsn}"));
     }
 
-    fn pop_some(&mut self) {
-        let most = self.random.pick(&[3, 10, 40, 256]);
-        for _ in 0..self.random.between(1, most) {
+    pub fn pop_some(&mut self) {
+        let most = self.random.pick(&[3, 10, 10, 40, 40, 256]);
+        let times = self.random.between(1, most);
+        self.pop_all(times);
+    }
+
+    /// From the oldest on, as many as there are, but at most so many.
+    fn pop_all(&mut self, most: u64) {
+        for _ in 0..most {
             let (Some(oldest), ..) = self.oracle.flight() else { return };
             self.say(format_args!("pop {oldest}"));
         }
@@ -344,14 +391,33 @@ impl Generator {
         self.say(format_args!("lifetimes {now}"));
     }
 
+    /// Mostly where the head can expire: it is a first fragment and its lifetime has begun.
     fn expire(&mut self) {
-        let now = self.clock();
+        if !self.random.one_in(4) {
+            self.finish_message();
+        }
+        if self.oracle.head().1.is_none() && self.random.one_in(2) {
+            self.lifetimes();
+        }
+        let now = self.clock_at_the_head();
         self.say(format_args!("expire {now}"));
     }
 
+    /// Sends what is left of the message under way, but not without end.
+    fn finish_message(&mut self) {
+        let now = self.now;
+        for _ in 0..8 {
+            if !self.oracle.head().0 || self.was_idle() {
+                break;
+            }
+            self.say(format_args!("send {now}"));
+        }
+    }
+
     fn expire_some(&mut self) {
+        self.finish_message();
         self.lifetimes();
-        let now = self.clock();
+        let now = self.clock_at_the_head();
         for _ in 0..self.random.between(2, 30) {
             self.say(format_args!("expire {now}"));
             if self.was_idle() {
@@ -361,8 +427,27 @@ impl Generator {
     }
 
     fn tail(&mut self) {
-        let now = self.clock();
+        let now = self.clock_at_the_head();
         self.say(format_args!("tail {now}"));
+    }
+
+    /// A message under way of which nothing is in flight any more.
+    fn popped_prefix(&mut self) {
+        self.half_sent();
+        self.pop_all(256);
+        if self.random.one_in(2) {
+            self.tail();
+        }
+    }
+
+    /// The message of the newest entry is given up: often one that is under way, sometimes with 255 in flight.
+    fn cut_off(&mut self) {
+        if self.random.one_in(2) {
+            self.fill_flight();
+        }
+        let (_, _, next) = self.oracle.flight();
+        self.say(format_args!("abandon {}", next.wrapping_sub(1)));
+        self.send();
     }
 
     /// The list, and the same with a room that just holds it, or just does not.
@@ -389,7 +474,7 @@ impl Generator {
         let (tsn, back) = (self.random.below(1 << 32), self.random.below(12));
         self.say(format_args!("sender {tsn} {}", u64::MAX - back));
         for _ in 0..3 {
-            self.open_stream(&[1, 10, 1200], ANY_KIND);
+            self.open_stream(&[1, 10, 1200], ANY_KIND, EITHER);
         }
     }
 }

@@ -54,3 +54,28 @@ pub fn first_difference(script: &[u8], one: &[u8], other: &[u8]) -> Option<Diffe
     let ((line, call, a), (.., b)) = unequal.next()?;
     Some(Difference { line, call: call.to_vec(), one: a.map(<[u8]>::to_vec), other: b.map(<[u8]>::to_vec) })
 }
+
+#[cfg(test)]
+mod tests {
+    use super::*;
+
+    const SCRIPT: &[u8] = b"# no answer\nsend 1\n\nstate r # two lines\nstate x\nsend 2";
+
+    #[test]
+    fn answers_stand_beside_their_calls() {
+        let answers = b"none\nrto=1\nend\nbad\nR 1\n";
+        let found: Vec<_> = answered(SCRIPT, answers).map(|(line, _, answer)| (line, answer.unwrap())).collect();
+        let expected: [(usize, &[u8]); 4] = [(1, b"none\n"), (3, b"rto=1\nend\n"), (4, b"bad\n"), (5, b"R 1\n")];
+        assert_eq!(found, expected);
+        assert_eq!(calls(SCRIPT), 4);
+    }
+
+    #[test]
+    fn the_first_difference_is_found() {
+        let difference = first_difference(SCRIPT, b"none\nrto=1\nend\nbad\nR 1\n", b"none\nrto=2\nend\nbad\n").unwrap();
+        assert_eq!((difference.line, difference.call), (3, b"state r # two lines".to_vec()));
+        let difference = first_difference(SCRIPT, b"none\nend\nbad\nR 1\n", b"none\nend\nbad\n").unwrap();
+        assert_eq!((difference.line, difference.other), (5, None));
+        assert!(first_difference(SCRIPT, b"none\n", b"none\n").is_none());
+    }
+}

@@ -69,12 +69,14 @@ pub struct Tally {
     /// Lines that are no call.
     bad: u64,
     lines: u64,
+    /// A call to which the Rust had no answer of the language: a panic, or an error of its own.
+    odd: Option<String>,
 }
 
 impl Tally {
     pub fn new() -> Self {
         let places = CALLS.iter().enumerate().map(|(place, name)| (name.as_bytes(), place)).collect();
-        Tally { places, counts: vec![Counts::default(); CALLS.len()], bad: 0, lines: 0 }
+        Tally { places, counts: vec![Counts::default(); CALLS.len()], bad: 0, lines: 0, odd: None }
     }
 
     /// Counts a script's calls by the answers that were given.
@@ -86,6 +88,9 @@ impl Tally {
     }
 
     fn add_answer(&mut self, line: &[u8], answer: &[u8]) {
+        if self.odd.is_none() && (answer.starts_with(b"panic") || answer.starts_with(b"err")) {
+            self.odd = Some(format!("{}: {}", String::from_utf8_lossy(line), String::from_utf8_lossy(answer)));
+        }
         let name = words(line).next().unwrap_or_default();
         match self.places.get(name) {
             Some(&place) if answer != b"bad\n" => {
@@ -106,6 +111,10 @@ impl Tally {
 
     pub fn refusals(&self, number: usize) -> u64 {
         self.counts.iter().map(|counts| counts.refused[number]).sum()
+    }
+
+    pub fn odd(&self) -> Option<&str> {
+        self.odd.as_deref()
     }
 
     /// The calls that never stood, and the refusals that were never given.

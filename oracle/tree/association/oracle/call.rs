@@ -331,3 +331,61 @@ fn decimal(word: &[u8]) -> Option<u64> {
         value.checked_mul(10)?.checked_add(digit)
     })
 }
+
+#[cfg(test)]
+mod tests {
+    use super::{Line, read};
+
+    #[test]
+    fn calls() {
+        for line in [
+            "send 0",
+            "\t send\t007 \r",
+            "send 18446744073709551615#x",
+            "released 1 -9223372036854775808",
+            "released 1 -0",
+            "expired 1",
+            "expired 1 2",
+            "tset 5 -",
+            "state",
+            "state sr",
+            "rel 65535 255 255 4294967295",
+        ] {
+            assert!(matches!(read(line.as_bytes()), Line::Call(_)), "{line}");
+        }
+    }
+
+    #[test]
+    fn no_calls() {
+        for line in [
+            "send",
+            "send 1 2",
+            "Send 1",
+            "send +1",
+            "send -1",
+            "send 1_0",
+            "send 18446744073709551616",
+            "send 1\u{b}",
+            "open 65536 1",
+            "open 1 4294967296",
+            "released 1 -",
+            "released 1 9223372036854775808",
+            "released 1 -9223372036854775809",
+            "tset 6 -",
+            "tset 0 --",
+            "timers - - -",
+            "state rs",
+            "peek 1",
+            "tstart 0 99999999999999 x",
+        ] {
+            assert!(matches!(read(line.as_bytes()), Line::Bad), "{line}");
+        }
+    }
+
+    #[test]
+    fn blanks() {
+        for line in ["", " \t\r", "# send 1", "  #"] {
+            assert!(matches!(read(line.as_bytes()), Line::Blank), "{line}");
+        }
+    }
+}
