@@ -18,6 +18,8 @@ use crate::tally::Tally;
 
 /// Calls that go through one run of the two processes, at least.
 const BATCH: u64 = 40_000;
+/// Lines of a shrunk script that are shown.
+const SHOWN: usize = 40;
 
 /// Whether nothing differed.
 pub fn compare(options: &Options, oracle: &Side, port: &Side, found: &Path) -> io::Result<bool> {
@@ -98,8 +100,11 @@ fn keep(oracle: &Side, port: &Side, found: &Path, name: &str, whole: &[u8]) -> i
     let path: PathBuf = found.join(format!("{name}.txt"));
     fs::write(found.join(format!("{name}-whole.txt")), whole)?;
     fs::write(&path, &script)?;
-    println!("shrunk from {} to {} lines, kept in {}:", lines(whole).count(), lines(&script).count(), path.display());
-    println!("{}", String::from_utf8_lossy(&script));
+    let length = lines(&script).count();
+    println!("shrunk from {} to {length} lines, kept in {}; its end:", lines(whole).count(), path.display());
+    for line in lines(&script).skip(length.saturating_sub(SHOWN)) {
+        println!("    {}", String::from_utf8_lossy(line));
+    }
     let (ours, theirs) = run_both(oracle, port, &script)?;
     if let Some(difference) = first_difference(&script, &ours.text, &theirs.text) {
         println!("line {}: {}", difference.line + 1, String::from_utf8_lossy(&difference.call));
