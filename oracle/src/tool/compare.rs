@@ -108,8 +108,11 @@ fn keep(oracle: &Side, port: &Side, found: &Path, name: &str, whole: &[u8]) -> i
     let (ours, theirs) = run_both(oracle, port, &script)?;
     if let Some(difference) = first_difference(&script, &ours.text, &theirs.text) {
         println!("line {}: {}", difference.line + 1, String::from_utf8_lossy(&difference.call));
-        show("oracle", difference.one.as_deref());
-        show("port", difference.other.as_deref());
+        let answers = [difference.one, difference.other].map(Option::unwrap_or_default);
+        let [ours, theirs] = answers.each_ref().map(|answer| lines(answer).collect::<Vec<_>>());
+        let same = ours.iter().zip(&theirs).take_while(|(a, b)| a == b).count();
+        show("oracle", &ours, same);
+        show("port", &theirs, same);
     }
     for (side, answers) in [("oracle", &ours), ("port", &theirs)] {
         if let Some(trouble) = &answers.trouble {
@@ -119,7 +122,9 @@ fn keep(oracle: &Side, port: &Side, found: &Path, name: &str, whole: &[u8]) -> i
     Ok(())
 }
 
-fn show(side: &str, answer: Option<&[u8]>) {
-    let text = answer.map_or("(no answer)\n".into(), String::from_utf8_lossy);
-    print!("{side}:\n{text}");
+/// The first lines of an answer that differ.
+fn show(side: &str, answer: &[&[u8]], same: usize) {
+    let rest = answer.iter().skip(same).take(3);
+    let text: Vec<_> = rest.map(|line| String::from_utf8_lossy(line)).collect();
+    println!("{side:>6}: {}", if text.is_empty() { "(nothing more)".into() } else { text.join("\n        ") });
 }
