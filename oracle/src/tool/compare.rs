@@ -13,7 +13,7 @@ use crate::options::Options;
 use crate::profiles::PROFILES;
 use crate::script::{calls, first_difference, lines};
 use crate::shrink::{differs_at, shrunk};
-use crate::sides::{Side, run_both};
+use crate::sides::{Answers, Side, run_both};
 use crate::tally::Tally;
 
 /// Calls that go through one run of the two processes, at least.
@@ -45,6 +45,19 @@ pub fn compare(options: &Options, oracle: &Side, port: &Side, found: &Path) -> i
     for missing in tally.missing() {
         println!("never seen: {missing}");
     }
+    Ok(true)
+}
+
+/// The same for one script of a file, as it is.
+pub fn compare_file(file: &Path, oracle: &Side, port: &Side) -> io::Result<bool> {
+    let script = fs::read(file)?;
+    let (ours, theirs) = run_both(oracle, port, &script)?;
+    if ours != theirs {
+        println!("DIFFERS:");
+        show_difference(&script, &ours, &theirs);
+        return Ok(false);
+    }
+    println!("{} calls of {} compared: nothing differs", calls(&script), file.display());
     Ok(true)
 }
 
@@ -106,7 +119,12 @@ fn keep(oracle: &Side, port: &Side, found: &Path, name: &str, whole: &[u8]) -> i
         println!("    {}", String::from_utf8_lossy(line));
     }
     let (ours, theirs) = run_both(oracle, port, &script)?;
-    if let Some(difference) = first_difference(&script, &ours.text, &theirs.text) {
+    show_difference(&script, &ours, &theirs);
+    Ok(())
+}
+
+fn show_difference(script: &[u8], ours: &Answers, theirs: &Answers) {
+    if let Some(difference) = first_difference(script, &ours.text, &theirs.text) {
         println!("line {}: {}", difference.line + 1, String::from_utf8_lossy(&difference.call));
         let answers = [difference.one, difference.other].map(Option::unwrap_or_default);
         let [ours, theirs] = answers.each_ref().map(|answer| lines(answer).collect::<Vec<_>>());
@@ -114,12 +132,11 @@ fn keep(oracle: &Side, port: &Side, found: &Path, name: &str, whole: &[u8]) -> i
         show("oracle", &ours, same);
         show("port", &theirs, same);
     }
-    for (side, answers) in [("oracle", &ours), ("port", &theirs)] {
+    for (side, answers) in [("oracle", ours), ("port", theirs)] {
         if let Some(trouble) = &answers.trouble {
             println!("{side} ended badly: {trouble}");
         }
     }
-    Ok(())
 }
 
 /// The first lines of an answer that differ.

@@ -46,6 +46,7 @@ fn run() -> Result<bool, String> {
         calls,
         seed,
         port: root.join("target/bin/replay"),
+        script: None,
         long: true,
         without: None,
         folder: root.join("crates/replay"),
@@ -54,7 +55,10 @@ fn run() -> Result<bool, String> {
         "compare" => {
             let options = options(2500, 2000, 1).read(words)?;
             let port = Side::new(options.port.clone(), &[]);
-            compare::compare(&options, &oracle, &port, &oracle_folder.join("found"))
+            match &options.script {
+                Some(file) => compare::compare_file(file, &oracle, &port),
+                None => compare::compare(&options, &oracle, &port, &oracle_folder.join("found")),
+            }
         }
         "faults" => faults::faults(&options(400, 500, 1).read(words)?, &program),
         "sample" => sample::sample(&options(13, 30, 1).read(words)?, &oracle, &oracle_folder.join("sample.txt")),

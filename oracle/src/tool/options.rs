@@ -8,6 +8,8 @@ pub struct Options {
     pub calls: usize,
     pub seed: u64,
     pub port: PathBuf,
+    /// A file that is compared in place of made scripts.
+    pub script: Option<PathBuf>,
     /// Whether the long scripts run too.
     pub long: bool,
     /// A call that the sample must not have.
@@ -25,6 +27,7 @@ impl Options {
                 "--calls" => self.calls = number(&value()?)? as usize,
                 "--seed" => self.seed = number(&value()?)?,
                 "--port" => self.port = value()?.into(),
+                "--script" => self.script = Some(value()?.into()),
                 "--short" => self.long = false,
                 "--without" => self.without = Some(value()?),
                 _ if word.starts_with('-') => return Err(format!("unknown option {word}")),
