@@ -1,5 +1,6 @@
 //! Checks the comparison itself: every planted fault of the oracle must be found.
 
+use std::fs;
 use std::io;
 use std::path::Path;
 
@@ -76,17 +77,21 @@ fn calls_until(right: &Answered, wrong: &Answers) -> u64 {
 }
 
 /// Whether every fault was found.
-pub fn faults(options: &Options, program: &Path) -> io::Result<bool> {
+pub fn faults(options: &Options, program: &Path, sections: &Path) -> io::Result<bool> {
     let healthy = Side::new(program.to_path_buf(), &[]);
+    let sample = fs::read(sections)?;
+    let sample_answers = healthy.run(&sample)?;
     let mut scripts = Scripts { options, healthy: &healthy, made: Vec::new() };
     let (mut sown, mut found) = (0, 0);
     println!("seed {}, scripts of {} calls\n", options.seed, options.calls);
-    println!("| fault | found by script | after calls | shrunk to lines |\n|---|---|---|---|");
+    println!(
+        "| fault | found by script | after calls | shrunk to lines | shown by sample.txt |\n|---|---|---|---|---|"
+    );
     for name in Oracle::fault_names() {
         sown += 1;
         let faulty = Side::new(program.to_path_buf(), &["--fault", name]);
         let Some(Found { number, calls }) = scripts.find(&faulty)? else {
-            println!("| {name} | NOT FOUND | | |");
+            println!("| {name} | NOT FOUND | | | |");
             continue;
         };
         found += 1;
@@ -97,7 +102,8 @@ pub fn faults(options: &Options, program: &Path) -> io::Result<bool> {
         } else {
             "-".to_string()
         };
-        println!("| {name} | {number} ({}) | {calls} | {length} |", script.name);
+        let shown = if faulty.run(&sample)? == sample_answers { "no" } else { "yes" };
+        println!("| {name} | {number} ({}) | {calls} | {length} | {shown} |", script.name);
     }
     println!("\n{found} of {sown} faults found");
     Ok(found == sown)

@@ -41,6 +41,7 @@ fn run() -> Result<bool, String> {
     let oracle_folder = root.join("oracle");
     let program = oracle_folder.join("target/release/oracle");
     let oracle = Side::new(program.clone(), &[]);
+    let sections = oracle_folder.join("sample.txt");
     let options = |scripts, calls, seed| Options {
         scripts,
         calls,
@@ -60,8 +61,8 @@ fn run() -> Result<bool, String> {
                 None => compare::compare(&options, &oracle, &port, &oracle_folder.join("found")),
             }
         }
-        "faults" => faults::faults(&options(400, 500, 1).read(words)?, &program),
-        "sample" => sample::sample(&options(13, 30, 1).read(words)?, &oracle, &oracle_folder.join("sample.txt")),
+        "faults" => faults::faults(&options(400, 500, 1).read(words)?, &program, &sections),
+        "sample" => sample::sample(&options(13, 30, 1).read(words)?, &oracle, &sections),
         _ => return Err(format!("unknown command {command}")),
     };
     done.map_err(|error| error.to_string())
