@@ -11,7 +11,7 @@ use crate::generator::{Script, script};
 use crate::long::LONG;
 use crate::options::Options;
 use crate::profiles::PROFILES;
-use crate::script::{calls, first_difference, lines};
+use crate::script::{calls, first_difference, lines, without};
 use crate::shrink::{differs_at, shrunk};
 use crate::sides::{Answers, Side, run_both};
 use crate::tally::Tally;
@@ -70,7 +70,10 @@ fn batches(options: &Options) -> Receiver<Vec<Script>> {
         let long = LONG.into_iter().filter(|_| options.long).map(|make| make(options.seed, options.calls));
         let mut batch = Vec::new();
         let mut made = 0;
-        for script in short.chain(long) {
+        for mut script in short.chain(long) {
+            if let Some(call) = &options.without {
+                script.text = without(&script.text, call);
+            }
             made += calls(script.text.as_bytes());
             batch.push(script);
             if made >= BATCH {

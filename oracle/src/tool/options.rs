@@ -12,7 +12,7 @@ pub struct Options {
     pub script: Option<PathBuf>,
     /// Whether the long scripts run too.
     pub long: bool,
-    /// A call that the sample must not have.
+    /// A call that is left out of every script.
     pub without: Option<String>,
     pub folder: PathBuf,
 }

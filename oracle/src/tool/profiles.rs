@@ -157,6 +157,7 @@ pub const PROFILES: [&Profile; 13] = [
         actions: &[
             (4, Generator::open_any),
             (1, Generator::open_many),
+            (1, Generator::nearly_full_buffer),
             (3, Generator::change_reliability),
             (4, Generator::threshold),
             (6, Generator::write),
@@ -221,6 +222,7 @@ pub const PROFILES: [&Profile; 13] = [
         name: "limits",
         actions: &[
             (12, Generator::beyond_a_limit),
+            (1, Generator::nearly_full_buffer),
             (3, Generator::write),
             (2, Generator::fill_ring),
             (2, Generator::send_some),
@@ -309,6 +311,20 @@ impl Generator {
             let typ = self.random.pick(&[50, 51, 53]);
             self.say(format_args!("write {sid} {typ} 9 {length}"));
         }
+    }
+
+    /// An amount just below its limit, and a write that reaches it or passes it.
+    fn nearly_full_buffer(&mut self) {
+        let sid = self.sid();
+        let rest = self.random.below(4);
+        self.say(format_args!("setbuf {sid} {}", U32_MAX - rest));
+        let (typ, length) = (self.payload_type(), self.random.pick(&[0, 1, rest, rest + 1, 1200]));
+        self.say(format_args!("write {sid} {typ} 0 {length}"));
+        if self.random.one_in(2) {
+            self.release();
+        }
+        let bytes = self.random.below(3000);
+        self.say(format_args!("setbuf {sid} {bytes}"));
     }
 
     fn send_times(&mut self, times: u64) {

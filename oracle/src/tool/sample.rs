@@ -7,7 +7,7 @@ use std::path::Path;
 use crate::generator::script;
 use crate::options::Options;
 use crate::profiles::PROFILES;
-use crate::script::{lines, words};
+use crate::script::{lines, without};
 use crate::sides::Side;
 use crate::tally::Tally;
 
@@ -35,9 +35,4 @@ pub fn sample(options: &Options, oracle: &Side, sections: &Path) -> io::Result<b
         println!("MISSING: {what}");
     }
     Ok((missing.is_empty() || options.without.is_some()) && answers.trouble.is_none())
-}
-
-fn without(text: &str, call: &str) -> String {
-    let kept = text.lines().filter(|line| words(line.as_bytes()).next() != Some(call.as_bytes()));
-    kept.flat_map(|line| [line, "\n"]).collect()
 }

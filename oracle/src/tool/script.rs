@@ -10,6 +10,13 @@ pub fn lines(text: &[u8]) -> impl Iterator<Item = &[u8]> {
     text.split_inclusive(|&b| b == b'\n').map(|line| line.strip_suffix(b"\n").unwrap_or(line))
 }
 
+/// The script without the lines of one call.
+pub fn without(text: &str, call: &str) -> String {
+    let kept =
+        text.split_inclusive('\n').filter(|line| words(line.trim_end().as_bytes()).next() != Some(call.as_bytes()));
+    kept.collect()
+}
+
 /// How many lines are answered.
 pub fn calls(script: &[u8]) -> u64 {
     lines(script).filter(|line| words(line).next().is_some()).count() as u64

@@ -95,6 +95,11 @@ pub(super) enum Call {
     NextMessage,
     NextTsn,
     Earliest,
+    /// A poke: refusal 7 would take 65,536 writes.
+    SetBuffered {
+        sid: u16,
+        bytes: u32,
+    },
     Stream {
         sid: u16,
     },
@@ -134,7 +139,7 @@ pub(super) enum Call {
         timer: Timer,
         now: u64,
     },
-    /// The one poke of the common language: refusal 12 would take 2^32 calls.
+    /// A poke: refusal 12 would take 2^32 calls.
     TimerCount {
         timer: Timer,
         count: u32,
@@ -175,10 +180,6 @@ pub(super) enum Call {
     SetSsn {
         sid: u16,
         ssn: u16,
-    },
-    SetBuffered {
-        sid: u16,
-        bytes: u32,
     },
     SetStatistics {
         sid: u16,
@@ -227,6 +228,7 @@ fn call(name: &[u8], w: &mut Words<'_>) -> Option<Call> {
         b"nextmsg" => Call::NextMessage,
         b"nexttsn" => Call::NextTsn,
         b"earliest" => Call::Earliest,
+        b"setbuf" => Call::SetBuffered { sid: w.number()?, bytes: w.number()? },
         b"stream" => Call::Stream { sid: w.number()? },
         b"timers" => Call::Timers { init: w.maybe()?, data: w.maybe()?, rto_max: w.number()? },
         b"tset" => Call::TimerSet { timer: w.timer()?, deadline: w.maybe()? },
@@ -250,7 +252,6 @@ fn call(name: &[u8], w: &mut Words<'_>) -> Option<Call> {
         b"touch" => Call::Touch { tsn: w.number()?, now: w.number()? },
         b"wire" => Call::Wire { tsn: w.number()? },
         b"setssn" => Call::SetSsn { sid: w.number()?, ssn: w.number()? },
-        b"setbuf" => Call::SetBuffered { sid: w.number()?, bytes: w.number()? },
         b"setstats" => Call::SetStatistics { sid: w.number()?, messages: w.number()?, bytes: w.number()? },
         _ => return None,
     })
