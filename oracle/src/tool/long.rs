@@ -1,0 +1,83 @@
+//! Scripts that take very many calls to get to their place: they run after the others.
+
+use crate::generator::{Generator, Profile, Script, U32_MAX};
+use crate::profiles::PROFILES;
+use crate::random::Random;
+
+pub const LONG: [fn(u64, usize) -> Script; 3] = [wrapped_ssn, full_buffer, tiny_variance];
+/// The streams of their random numbers: far from those of the other scripts.
+const STREAM: u64 = 1 << 60;
+
+fn profile(name: &str) -> &'static Profile {
+    PROFILES.into_iter().find(|profile| profile.name == name).expect("the profile exists")
+}
+
+/// Empty messages use up a stream's SSNs; then lifetimes end on both sides of the wrap.
+fn wrapped_ssn(seed: u64, calls: usize) -> Script {
+    let mut g = Generator::new(Random::new(seed, STREAM));
+    let lifetimes = profile("lifetimes");
+    g.begin(lifetimes);
+    let sid = g.oracle.open()[0];
+    g.say(format_args!("rel {sid} 0 2 3"));
+    for _ in 0..65_530 {
+        g.say(format_args!("write {sid} 50 0 0"));
+    }
+    for _ in 0..12 {
+        g.say(format_args!("write {sid} 53 0 1"));
+    }
+    g.go_on(lifetimes, g.made() + calls);
+    Script { name: "wrapped-ssn", text: g.finish() }
+}
+
+/// Messages that expire at once, and whose bytes nobody releases; then writes around the limit of the buffered amount.
+fn full_buffer(seed: u64, calls: usize) -> Script {
+    let mut g = Generator::new(Random::new(seed, STREAM + 1));
+    let streams = profile("streams");
+    g.begin(profile("timers"));
+    let sid = g.oracle.open()[0];
+    let length = 65_515;
+    g.say(format_args!("open 500 {length}"));
+    g.say(format_args!("rel 500 1 2 0"));
+    while buffered(&g, 500) + length <= U32_MAX {
+        for _ in 0..256 {
+            g.say(format_args!("write 500 53 0 {length}"));
+        }
+        g.say(format_args!("lifetimes 0"));
+        while !g.was_idle() {
+            g.say(format_args!("expire 0"));
+        }
+    }
+    for _ in 0..calls / 10 {
+        let rest = U32_MAX - buffered(&g, 500);
+        let length = g.random.pick(&[rest, rest + 1, rest.saturating_sub(1), 1, 0]).min(65_536);
+        let typ = g.random.pick(&[50, 51, 53, 57]);
+        g.say(format_args!("write 500 {typ} 0 {length}"));
+        let released = g.random.pick(&[0, 1, 5, 70_000]);
+        g.say(format_args!("released 500 {released}"));
+        g.say(format_args!("stream 500"));
+        g.say(format_args!("write {sid} 53 0 1"));
+        g.say(format_args!("expire 0"));
+    }
+    g.go_on(streams, g.made() + calls / 2);
+    Script { name: "full-buffer", text: g.finish() }
+}
+
+fn buffered(g: &Generator, sid: u16) -> u64 {
+    g.oracle.stream(sid).map_or(0, |(_, buffered, ..)| buffered)
+}
+
+/// Equal measurements, until rttvar has fallen through the smallest floats.
+fn tiny_variance(seed: u64, calls: usize) -> Script {
+    let mut g = Generator::new(Random::new(seed, STREAM + 2));
+    let estimator = profile("estimator");
+    g.begin(estimator);
+    for rtt in [1, 600, U32_MAX] {
+        g.say(format_args!("rreset"));
+        for _ in 0..2700 {
+            g.say(format_args!("measure {rtt}"));
+            g.say(format_args!("getrto"));
+        }
+    }
+    g.go_on(estimator, g.made() + calls);
+    Script { name: "tiny-variance", text: g.finish() }
+}

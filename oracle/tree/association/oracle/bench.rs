@@ -1,0 +1,135 @@
+//! The originals without the script around them, for `src/bin/bench.rs`.
+
+use alloc::vec;
+use alloc::vec::Vec;
+use core::time::Duration;
+use std::time::Instant;
+
+use super::Oracle;
+use crate::Side;
+use crate::association::Association;
+use crate::association::stream::{ReliabilityType, Stream, StreamState};
+use crate::association::timer::{RtoManager, Timer, TimerTable};
+use crate::chunk::chunk_payload_data::PayloadProtocolIdentifier as Ppi;
+
+pub struct BenchSender {
+    base: Instant,
+    a: Association,
+    data: Vec<u8>,
+}
+
+impl BenchSender {
+    pub fn now(&self, ms: u64) -> Instant {
+        self.base + Duration::from_millis(ms)
+    }
+}
+
+impl Oracle {
+    pub fn bench_sender(payload: u32, timed_ms: u32) -> BenchSender {
+        let mut a = Association::new(4_294_967_000, 0, 262_144);
+        for sid in 1..=2u16 {
+            let mut s = StreamState::new(Side::Client, sid, payload, 65536, Ppi::Binary);
+            if timed_ms > 0 {
+                s.reliability_type = ReliabilityType::Timed;
+                s.reliability_value = timed_ms;
+            }
+            a.streams.insert(sid, s);
+        }
+        BenchSender { base: Instant::now(), a, data: vec![7; 1 << 20] }
+    }
+}
+
+impl BenchSender {
+    /// The whole write of stream.rs (it copies the bytes once, into a fresh allocation).
+    #[inline(never)]
+    pub fn write(&mut self, sid: u16, len: usize) {
+        let _ =
+            Stream { stream_identifier: sid, association: &mut self.a }.write_with_ppi(&self.data[..len], Ppi::Binary);
+    }
+    /// packetize + reliability + push of an already shared buffer: no copy.
+    #[inline(never)]
+    pub fn write_shared(&mut self, sid: u16, p: &bytes::Bytes) {
+        let s = self.a.streams.get_mut(&sid).expect("open");
+        let (_, mut chunks) = s.probe_packetize(p, Ppi::Binary);
+        for c in &mut chunks {
+            c.reliability = Some((s.reliability_type, s.reliability_value));
+        }
+        s.stats.probe_sent(Ppi::Binary, p.len());
+        self.a.outbound.push(chunks);
+    }
+    #[inline(never)]
+    pub fn send(&mut self, now: Instant) -> Option<u32> {
+        self.a.outbound.send_next(&mut self.a.my_next_tsn, now).map(|c| c.tsn)
+    }
+    #[inline(never)]
+    pub fn ack(&mut self, tsn: u32) -> usize {
+        self.a.outbound.mark_as_acked(tsn)
+    }
+    #[inline(never)]
+    pub fn pop(&mut self, tsn: u32) -> bool {
+        self.a.outbound.pop(tsn).is_some()
+    }
+    #[inline(never)]
+    pub fn released(&mut self, sid: u16, n: i64) -> bool {
+        self.a.streams.get_mut(&sid).expect("open").on_buffer_released(n)
+    }
+    #[inline(never)]
+    pub fn abandon(&mut self, tsn: u32) -> usize {
+        self.a.outbound.abandon(tsn, &mut self.a.my_next_tsn).map_or(0, |x| x.1)
+    }
+    #[inline(never)]
+    pub fn expired(&self, now: Instant) -> usize {
+        self.a.outbound.expired_inflight(now).len()
+    }
+    #[inline(never)]
+    pub fn expire_pending(&mut self, now: Instant) -> bool {
+        self.a.outbound.expire_pending(now).is_some()
+    }
+    #[inline(never)]
+    pub fn expire_tail(&mut self, now: Instant) -> bool {
+        self.a.outbound.expire_pending_tail(now, &mut self.a.my_next_tsn).is_some()
+    }
+    #[inline(never)]
+    pub fn lifetimes(&mut self, now: Instant) {
+        self.a.outbound.start_timed_messages(now)
+    }
+    #[inline(never)]
+    pub fn mark_all(&mut self) {
+        self.a.outbound.mark_all_to_retransmit()
+    }
+    #[inline(never)]
+    pub fn has(&self, sid: u16) -> bool {
+        self.a.outbound.contains_stream(sid)
+    }
+    #[inline(never)]
+    pub fn earliest(&self) -> Option<u32> {
+        self.a.outbound.earliest_outstanding_tsn()
+    }
+    pub fn oldest(&self) -> Option<u32> {
+        self.a.outbound.probe_oldest()
+    }
+    pub fn flight(&self) -> usize {
+        self.a.outbound.inflight_len()
+    }
+    pub fn pending(&self) -> usize {
+        self.a.outbound.pending_len()
+    }
+}
+
+impl Oracle {
+    /// `n` rounds of starting, asking and measuring.
+    pub fn bench_timer_rto(n: u64) -> (u64, f64) {
+        let base = Instant::now();
+        let mut timers = TimerTable::new(Some(8), Some(10), 60000);
+        let mut rto = RtoManager::new(3000, 1000, 60000);
+        let mut sum = 0;
+        for i in 0..n {
+            let now = base + Duration::from_millis(i);
+            timers.start(Timer::T3RTX, now, rto.get_rto());
+            sum += timers.is_expired(Timer::T3RTX, now).2 as u64;
+            sum += u64::from(timers.next_timeout().is_some());
+            sum += rto.set_new_rtt(100 + (i * 7919) % 400);
+        }
+        (sum, rto.rttvar)
+    }
+}

@@ -1,0 +1,107 @@
+//! Document 01's refusals, in 01's orders. Nothing is changed here.
+
+use super::Oracle;
+use super::call::Call;
+
+pub(super) const CLOCK_MAX: u64 = 1 << 40;
+pub(super) const U32_MAX: u64 = u32::MAX as u64;
+pub(super) const STREAMS: usize = 64;
+pub(super) const PAYLOAD_MAX: u32 = 65_515;
+/// Type 50 is always ordered.
+pub(super) const DCEP: u32 = 50;
+
+/// The first case that holds, as 01's number.
+fn first(cases: &[(bool, u8)]) -> Option<u8> {
+    cases.iter().find(|(holds, _)| *holds).map(|(_, number)| *number)
+}
+
+impl Oracle {
+    /// Two refusals stand in `mode raw` too: on a stream that is not open there is nothing to call,
+    /// and with a payload maximum of 0 the Rust would never return from a write.
+    pub(super) fn refusal(&self, call: &Call) -> Option<u8> {
+        match *call {
+            _ if named_stream(call).is_some_and(|sid| !self.is_open(sid)) => Some(3),
+            Call::Open { maximum: 0, .. } => Some(2),
+            _ if self.guard => self.refusal_of_01(call),
+            _ => None,
+        }
+    }
+
+    fn refusal_of_01(&self, call: &Call) -> Option<u8> {
+        match *call {
+            Call::Open { sid, maximum } => first(&[
+                (!(1..=PAYLOAD_MAX).contains(&maximum), 2),
+                (self.is_open(sid), 4),
+                (self.open_streams() >= STREAMS, 5),
+            ]),
+            Call::Write { sid, typ, off, len } => self.write_refusal(sid, typ, off, len),
+            Call::Lifetimes { now } | Call::Expire { now } | Call::Tail { now } | Call::Touch { now, .. } => {
+                first(&[(now > CLOCK_MAX, 1)])
+            }
+            Call::Send { now } => first(&[(now > CLOCK_MAX, 1), (self.pending_len() > 0 && self.flight_is_full(), 10)]),
+            Call::Expired { now, room } => {
+                first(&[(now > CLOCK_MAX, 1)]).or_else(|| first(&[(self.list_is_longer(now, room), 11)]))
+            }
+            Call::Timers { rto_max, .. } => first(&[(rto_max > U32_MAX, 1)]),
+            Call::TimerSet { deadline, .. } => first(&[(deadline.is_some_and(|d| d > CLOCK_MAX), 1)]),
+            Call::TimerStart { now, interval, .. } | Call::TimerRestart { now, interval, .. } => {
+                first(&[(now > CLOCK_MAX || interval > U32_MAX, 1)])
+            }
+            Call::TimerExpired { timer, now } => {
+                first(&[(now > CLOCK_MAX, 1)]).or_else(|| first(&[(self.count_is_at_its_end(timer, now), 12)]))
+            }
+            Call::Rto { initial, min, max } => {
+                first(&[([initial, min, max].iter().any(|x| *x > U32_MAX), 1), (min > max, 2)])
+            }
+            Call::Measure { rtt } => first(&[(rtt > U32_MAX, 1)]),
+            Call::RtoSet { rto, .. } => first(&[(rto > U32_MAX, 1)]),
+            _ => None,
+        }
+    }
+
+    fn write_refusal(&self, sid: u16, typ: u32, off: u64, len: u64) -> Option<u8> {
+        let (buffered, fragments, used) = self.write_needs(sid, typ, len);
+        first(&[
+            (len > u64::from(self.max_message()), 6),
+            (off > U32_MAX, 1),
+            (buffered.saturating_add(len) > U32_MAX, 7),
+            (fragments > self.ring.saturating_sub(used) as u64, 8),
+            (fragments > 0 && self.next_message() == u64::MAX, 9),
+        ])
+    }
+
+    /// The stream's buffered amount, the message's fragments, and the chunks that its ring holds already.
+    pub(super) fn write_needs(&self, sid: u16, typ: u32, len: u64) -> (u64, u64, usize) {
+        let stream = &self.association.streams[&sid];
+        let (unordered, ordered) = self.ring_lengths();
+        let used = if stream.unordered && typ != DCEP { unordered } else { ordered };
+        (stream.buffered_amount as u64, len.div_ceil(u64::from(stream.max_payload_size)), used)
+    }
+
+    fn list_is_longer(&self, now: u64, room: Option<u64>) -> bool {
+        let longer = |room| self.association.outbound.expired_inflight(self.at(now)).len() as u64 > room;
+        room.is_some_and(longer)
+    }
+
+    fn count_is_at_its_end(&self, timer: crate::association::timer::Timer, now: u64) -> bool {
+        let kept = self.timers.probe(timer);
+        let expired = kept.deadline.is_some_and(|d| d <= self.at(now));
+        expired && !kept.suppressed && kept.count as u64 == U32_MAX
+    }
+}
+
+/// The stream that a call is about and that has to be open for it.
+fn named_stream(call: &Call) -> Option<u16> {
+    match *call {
+        Call::Reliability { sid, .. }
+        | Call::Low { sid, .. }
+        | Call::High { sid, .. }
+        | Call::Write { sid, .. }
+        | Call::Released { sid, .. }
+        | Call::Stream { sid }
+        | Call::SetSsn { sid, .. }
+        | Call::SetBuffered { sid, .. }
+        | Call::SetStatistics { sid, .. } => Some(sid),
+        _ => None,
+    }
+}
