@@ -4,11 +4,11 @@ use lib.ListN.{length}
 use Rattle.limits.specs.Limits.{Room}
 use Rattle.model.specs.Rings.{expirePendingTail}
 use Rattle.outbound_expiry.specs.Lean.{leanExpireTail}
 use Rattle.sender.specs.Sizes.{sizes}
 use Rattle.sender.specs.Value.{stateOf, does-at}
 use borrow.Author.Needs.{needs}
-use Rattle.sender.proofs.expire_pending_tail.Statement.{statement}
-use Rattle.sender.proofs.expire_pending_tail.Tie as tie
+use Rattle.sender_messages.proofs.expire_pending_tail.Statement.{statement}
+use Rattle.sender_messages.proofs.expire_pending_tail.Tie as tie
 
 slice-aggregate-expire-pending-tail : tie.Need-slice-aggregate-expire-pending-tail
 slice-aggregate-expire-pending-tail c = search needs

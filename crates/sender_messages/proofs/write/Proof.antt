@@ -3,11 +3,11 @@ use mathlib.Core.Path.{_≡_}
 use lib.ListN.{length}
 use Rattle.limits.specs.Limits.{Room}
 use Rattle.model.specs.Messages.{write}
 use Rattle.sender.specs.Sizes.{sizes}
 use Rattle.sender.specs.Value.{stateOf, said-at}
 use borrow.Author.Needs.{needs}
-use Rattle.sender.proofs.write.Statement.{statement}
-use Rattle.sender.proofs.write.Tie as tie
+use Rattle.sender_messages.proofs.write.Statement.{statement}
+use Rattle.sender_messages.proofs.write.Tie as tie
 
 slice-aggregate-write : tie.Need-slice-aggregate-write
 slice-aggregate-write c = search needs

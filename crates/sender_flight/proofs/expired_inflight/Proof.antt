@@ -1,11 +1,11 @@
 -- The same of the sender that is taken apart, whose room is 01's.
 use mathlib.Core.Path.{_≡_}
 use lib.ListN.{length}
 use Rattle.sender.specs.Sizes.{sizes}
 use Rattle.sender.specs.Value.{does-in}
 use borrow.Author.Needs.{needs}
-use Rattle.sender.proofs.expired_inflight.Statement.{statement}
-use Rattle.sender.proofs.expired_inflight.Tie as tie
+use Rattle.sender_flight.proofs.expired_inflight.Statement.{statement}
+use Rattle.sender_flight.proofs.expired_inflight.Tie as tie
 
 slice-aggregate-expired-inflight : tie.Need-slice-aggregate-expired-inflight
 slice-aggregate-expired-inflight c = search needs

@@ -4,11 +4,11 @@ use lib.ListN.{length}
 use Rattle.limits.specs.Limits.{Room}
 use Rattle.model.specs.Rings.{send}
 use Rattle.outbound_send.specs.Lean.{leanSend}
 use Rattle.sender.specs.Sizes.{sizes}
 use Rattle.sender.specs.Value.{stateOf, does-at}
 use borrow.Author.Needs.{needs}
-use Rattle.sender.proofs.send.Statement.{statement}
-use Rattle.sender.proofs.send.Tie as tie
+use Rattle.sender_messages.proofs.send.Statement.{statement}
+use Rattle.sender_messages.proofs.send.Tie as tie
 
 slice-aggregate-send : tie.Need-slice-aggregate-send
 slice-aggregate-send c = search needs

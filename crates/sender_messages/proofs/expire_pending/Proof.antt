@@ -1,11 +1,11 @@
 -- The same of the sender that is taken apart, whose room is 01's.
 use mathlib.Core.Path.{_≡_}
 use lib.ListN.{length}
 use Rattle.sender.specs.Sizes.{sizes}
 use Rattle.sender.specs.Value.{does-in}
 use borrow.Author.Needs.{needs}
-use Rattle.sender.proofs.expire_pending.Statement.{statement}
-use Rattle.sender.proofs.expire_pending.Tie as tie
+use Rattle.sender_messages.proofs.expire_pending.Statement.{statement}
+use Rattle.sender_messages.proofs.expire_pending.Tie as tie
 
 slice-aggregate-expire-pending : tie.Need-slice-aggregate-expire-pending
 slice-aggregate-expire-pending c = search needs

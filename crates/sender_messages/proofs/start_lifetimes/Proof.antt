@@ -1,11 +1,11 @@
 -- The same of the sender that is taken apart, whose room is 01's.
 use mathlib.Core.Path.{_≡_}
 use lib.ListN.{length}
 use Rattle.sender.specs.Sizes.{sizes}
 use Rattle.sender.specs.Value.{does-in}
 use borrow.Author.Needs.{needs}
-use Rattle.sender.proofs.start_lifetimes.Statement.{statement}
-use Rattle.sender.proofs.start_lifetimes.Tie as tie
+use Rattle.sender_messages.proofs.start_lifetimes.Statement.{statement}
+use Rattle.sender_messages.proofs.start_lifetimes.Tie as tie
 
 slice-aggregate-start-lifetimes : tie.Need-slice-aggregate-start-lifetimes
 slice-aggregate-start-lifetimes c = search needs

@@ -4,11 +4,11 @@ use lib.ListN.{length}
 use Rattle.limits.specs.Limits.{Room}
 use Rattle.model.specs.Rings.{abandon}
 use Rattle.outbound_expiry.specs.Lean.{leanAbandon}
 use Rattle.sender.specs.Sizes.{sizes}
 use Rattle.sender.specs.Value.{stateOf, does-at}
 use borrow.Author.Needs.{needs}
-use Rattle.sender.proofs.abandon.Statement.{statement}
-use Rattle.sender.proofs.abandon.Tie as tie
+use Rattle.sender_messages.proofs.abandon.Statement.{statement}
+use Rattle.sender_messages.proofs.abandon.Tie as tie
 
 slice-aggregate-abandon : tie.Need-slice-aggregate-abandon
 slice-aggregate-abandon c = search needs
