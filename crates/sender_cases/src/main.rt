@@ -17,7 +17,7 @@ fn state(h: Head, cells: &[u64]) {
     );
     show::number(b", next TSN ", sender_asks::next_tsn(h, cells) as u64);
     show::number(b", next message ", sender_asks::next_message(h));
-    let amount = sender_streams::buffered_amount(h, cells, 1);
+    let amount = sender_stream_asks::buffered_amount(h, cells, 1);
     match amount {
         Amount::Is(bytes) => show::number(b", amount ", bytes),
         Amount::Refused(n) => show::number(b", amount: refusal ", n as u64),

@@ -111,21 +111,21 @@ pub fn buffered_amount(s: Sender, identifier: u16) -> Amount
     ensures { λ r. ⌜ r ≡ amount (find identifier (stateOf s .streams)) (λ t. t .buffered) ⌝ }
 {
     let cells = s.cells;
-    sender_streams::buffered_amount(s.head, &cells, identifier)
+    sender_stream_asks::buffered_amount(s.head, &cells, identifier)
 }
 
 pub fn low_threshold(s: Sender, identifier: u16) -> Amount
     ensures { λ r. ⌜ r ≡ amount (find identifier (stateOf s .streams)) (λ t. t .low) ⌝ }
 {
     let cells = s.cells;
-    sender_streams::low_threshold(s.head, &cells, identifier)
+    sender_stream_asks::low_threshold(s.head, &cells, identifier)
 }
 
 pub fn high_threshold(s: Sender, identifier: u16) -> Amount
     ensures { λ r. ⌜ r ≡ amount (find identifier (stateOf s .streams)) (λ t. t .high) ⌝ }
 {
     let cells = s.cells;
-    sender_streams::high_threshold(s.head, &cells, identifier)
+    sender_stream_asks::high_threshold(s.head, &cells, identifier)
 }
 
 // Messages and bytes sent.
@@ -133,5 +133,5 @@ pub fn statistics(s: Sender, identifier: u16) -> model::Counted
     ensures { λ r. ⌜ r ≡ counts (find identifier (stateOf s .streams)) ⌝ }
 {
     let cells = s.cells;
-    sender_streams::statistics(s.head, &cells, identifier)
+    sender_stream_asks::statistics(s.head, &cells, identifier)
 }

@@ -2,10 +2,10 @@
 use mathlib.Core.Path.{sym, _∙_}
 use denote.Ref.{now}
 use Rattle.sender_head.specs.Whole.{senderOf}
-use Rattle.sender_streams.specs.Changes.{amount-refused, amount-is}
+use Rattle.sender_stream_asks.specs.Answers.{amount-refused, amount-is}
 use borrow.Author.Needs.{needs}
-use Rattle.sender_streams.proofs.buffered_amount.Statement.{statement}
-use Rattle.sender_streams.proofs.buffered_amount.Tie as tie
+use Rattle.sender_stream_asks.proofs.buffered_amount.Statement.{statement}
+use Rattle.sender_stream_asks.proofs.buffered_amount.Tie as tie
 
 seek-requires : tie.Need-seek-requires
 seek-requires c κs = search needs

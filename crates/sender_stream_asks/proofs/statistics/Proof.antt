@@ -2,10 +2,10 @@
 use mathlib.Core.Path.{sym, _∙_}
 use denote.Ref.{now}
 use Rattle.sender_head.specs.Whole.{senderOf}
-use Rattle.sender_streams.specs.Changes.{counts-refused, counts-are}
+use Rattle.sender_stream_asks.specs.Answers.{counts-refused, counts-are}
 use borrow.Author.Needs.{needs}
-use Rattle.sender_streams.proofs.statistics.Statement.{statement}
-use Rattle.sender_streams.proofs.statistics.Tie as tie
+use Rattle.sender_stream_asks.proofs.statistics.Statement.{statement}
+use Rattle.sender_stream_asks.proofs.statistics.Tie as tie
 
 seek-requires : tie.Need-seek-requires
 seek-requires c κs = search needs

@@ -4,8 +4,8 @@ use denote.Ref.{now}
 use Rattle.stream_table.specs.Tables.{tableOf, sought}
 use Rattle.sender_head.specs.Whole.{Halves, parts-are}
 use borrow.Author.Needs.{needs}
-use Rattle.sender_streams.proofs.seek.Statement.{statement}
-use Rattle.sender_streams.proofs.seek.Tie as tie
+use Rattle.sender_table.proofs.seek.Statement.{statement}
+use Rattle.sender_table.proofs.seek.Tie as tie
 
 table-words-requires : tie.Need-table-words-requires
 table-words-requires c κs = search needs

@@ -1,9 +1,13 @@
--- The table came back from its own call; the queue stays.
+-- The table's own change; the queue's words stay.
+use mathlib.Core.List.{List}
+use Prim.Native.Nat.{ℕ}
 use denote.Ref.{now}
-use Rattle.sender_write.specs.Halves.{replaced-is, replaced-counted}
+use lib.ListN.{set}
+use Rattle.stream_table.specs.Tables.{tableOf}
+use Rattle.sender_table.specs.Tables.{table-changed, counted-still}
 use borrow.Author.Needs.{needs}
-use Rattle.sender_write.proofs.replace.Statement.{statement}
-use Rattle.sender_write.proofs.replace.Tie as tie
+use Rattle.sender_table.proofs.replace.Statement.{statement}
+use Rattle.sender_table.proofs.replace.Tie as tie
 
 table-words-requires : tie.Need-table-words-requires
 table-words-requires c κs = search needs
@@ -26,13 +30,13 @@ same-length c = search needs
 returns : tie.Need-returns
 returns c =
     let a = c .before .before .before .before .before .before .before .args in
+    let k = c .before .before .before .before .table-words in
     let m = c .before .before .update in
-    let w = c .before .before .before .before .table-words in
     let ws = now (a .cells) in
     let p = m .last .1 .0 in
-    let k = w .ensures .0 in (
-      replaced-is (a .h) ws (w .result) k p (search needs) (a .place) (a .stream) (m .ensures),
-      replaced-counted (a .h) ws (w .result) k p (search needs),
+    let n = a .h .streams in (
+      table-changed (a .h) ws p (k .result) (k .ensures .0) (search needs) n (λ (w : List ℕ). set (tableOf n w) (a .place) (a .stream)) (m .ensures),
+      counted-still (a .h) ws p (k .result) (k .ensures .0) (search needs) n,
     )
 
 pub replace-spec : {M : Type 1} → statement M

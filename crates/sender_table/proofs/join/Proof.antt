@@ -8,10 +8,10 @@ use lib.Dec.{ltb}
 use Rattle.cells.specs.Slots.{roomOf}
 use Rattle.stream_table.specs.Tables.{tableOf, joined}
 use Rattle.sender_head.specs.Whole.{Halves, parts-are}
-use Rattle.sender_streams.specs.Tables.{table-changed, counted-still}
+use Rattle.sender_table.specs.Tables.{table-changed, counted-still}
 use borrow.Author.Needs.{needs}
-use Rattle.sender_streams.proofs.join.Statement.{statement}
-use Rattle.sender_streams.proofs.join.Tie as tie
+use Rattle.sender_table.proofs.join.Statement.{statement}
+use Rattle.sender_table.proofs.join.Tie as tie
 
 table-words-requires : tie.Need-table-words-requires
 table-words-requires c κs = search needs
