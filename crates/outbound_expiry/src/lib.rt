@@ -71,7 +71,7 @@ pub fn expire_pending(q: OutboundQueue, cells: &mut [u64], clock: u64) -> Expiri
             answer: Expired::Refused(limits::BEYOND_LIMIT),
         };
     }
-    let front = outbound_queue::peek_pending(q, cells);
+    let front = outbound_asks::peek_pending(q, cells);
     let Found::One(chunk) = front else {
         return Expiring {
             queue: q,
@@ -155,7 +155,7 @@ fn give_up(q: OutboundQueue, cells: &mut [u64], number: u64) -> GivenUp
 pub fn abandon(q: OutboundQueue, cells: &mut [u64], tsn: u32) -> Abandoning
     ensures { λ r. ⌜ ((room : Room) (ts : List Stream) → room .flight ≡ ringRoom (now (cells .entry)) → Does room (senderOf ts q (now (cells .entry))) (record { after = senderOf ts (r .queue) (now (cells .exit)); says = r .answer }) (leanAbandon room tsn (senderOf ts q (now (cells .entry)))) (abandon tsn (senderOf ts q (now (cells .entry))))) × (Counted q (now (cells .entry)) → Counted (r .queue) (now (cells .exit))) ⌝ }
 {
-    let entry = outbound_queue::get(q, cells, tsn);
+    let entry = outbound_asks::get(q, cells, tsn);
     let Found::One(chunk) = entry else {
         return Abandoning {
             queue: q,
@@ -203,7 +203,7 @@ pub fn expire_pending_tail(q: OutboundQueue, cells: &mut [u64], clock: u64) -> T
             answer: TailExpired::Refused(limits::BEYOND_LIMIT),
         };
     }
-    let front = outbound_queue::peek_pending(q, cells);
+    let front = outbound_asks::peek_pending(q, cells);
     let Found::One(chunk) = front else {
         return TailExpiring {
             queue: q,
@@ -236,7 +236,7 @@ fn under_way(q: OutboundQueue, cells: &[u64]) -> Pending
     if !q.pending.selected {
         return Pending::Nothing;
     }
-    let front = outbound_queue::peek_pending(q, cells);
+    let front = outbound_asks::peek_pending(q, cells);
     let Found::One(chunk) = front else {
         return Pending::Nothing;
     };

@@ -36,14 +36,14 @@ fn chunk(c: Chunk) {
 }
 
 fn state(q: OutboundQueue, cells: &[u64]) {
-    show::number(b"pending ", outbound_queue::pending_len(q, cells) as u64);
-    show::number(b" of bytes ", outbound_queue::pending_bytes(q));
+    show::number(b"pending ", outbound_asks::pending_len(q, cells) as u64);
+    show::number(b" of bytes ", outbound_asks::pending_bytes(q));
     show::number(
         b", in flight ",
-        outbound_queue::inflight_len(q, cells) as u64,
+        outbound_asks::inflight_len(q, cells) as u64,
     );
-    show::number(b" of bytes ", outbound_queue::inflight_bytes(q));
-    show::number(b", next TSN ", outbound_queue::next_tsn(q, cells) as u64);
+    show::number(b" of bytes ", outbound_asks::inflight_bytes(q));
+    show::number(b", next TSN ", outbound_asks::next_tsn(q, cells) as u64);
     show::line();
 }
 

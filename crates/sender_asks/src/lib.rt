@@ -18,7 +18,7 @@ pub fn get(h: Head, cells: &[u64], tsn: u32) -> Found
 {
     let k = sender_head::table_words(cells);
     let n = cells.len();
-    outbound_queue::get(h.queue, &cells[k..n], tsn)
+    outbound_asks::get(h.queue, &cells[k..n], tsn)
 }
 
 // No for a TSN that is not in flight.
@@ -27,7 +27,7 @@ pub fn is_abandoned(h: Head, cells: &[u64], tsn: u32) -> bool
 {
     let k = sender_head::table_words(cells);
     let n = cells.len();
-    outbound_queue::is_abandoned(h.queue, &cells[k..n], tsn)
+    outbound_asks::is_abandoned(h.queue, &cells[k..n], tsn)
 }
 
 // The chunk that is sent next.
@@ -36,14 +36,14 @@ pub fn peek_pending(h: Head, cells: &[u64]) -> Found
 {
     let k = sender_head::table_words(cells);
     let n = cells.len();
-    outbound_queue::peek_pending(h.queue, &cells[k..n])
+    outbound_asks::peek_pending(h.queue, &cells[k..n])
 }
 
 // The number of the next message.
 pub fn next_message(h: Head) -> u64
     ensures { λ r. ⌜ ((ws : List ℕ) → r ≡ senderOf h ws .numbers .next) ⌝ }
 {
-    outbound_queue::next_message_id(h.queue)
+    outbound_asks::next_message_id(h.queue)
 }
 
 // The TSN of the next chunk that is sent.
@@ -52,7 +52,7 @@ pub fn next_tsn(h: Head, cells: &[u64]) -> u32
 {
     let k = sender_head::table_words(cells);
     let n = cells.len();
-    outbound_queue::next_tsn(h.queue, &cells[k..n])
+    outbound_asks::next_tsn(h.queue, &cells[k..n])
 }
 
 pub fn pending_length(h: Head, cells: &[u64]) -> usize
@@ -60,13 +60,13 @@ pub fn pending_length(h: Head, cells: &[u64]) -> usize
 {
     let k = sender_head::table_words(cells);
     let n = cells.len();
-    outbound_queue::pending_len(h.queue, &cells[k..n])
+    outbound_asks::pending_len(h.queue, &cells[k..n])
 }
 
 pub fn pending_bytes(h: Head) -> u64
     ensures { λ r. ⌜ ((ws : List ℕ) → Counted h ws → r ≡ bytes (senderOf h ws .pending .unordered) + bytes (senderOf h ws .pending .ordered)) ⌝ }
 {
-    outbound_queue::pending_bytes(h.queue)
+    outbound_asks::pending_bytes(h.queue)
 }
 
 pub fn inflight_length(h: Head, cells: &[u64]) -> usize
@@ -74,13 +74,13 @@ pub fn inflight_length(h: Head, cells: &[u64]) -> usize
 {
     let k = sender_head::table_words(cells);
     let n = cells.len();
-    outbound_queue::inflight_len(h.queue, &cells[k..n])
+    outbound_asks::inflight_len(h.queue, &cells[k..n])
 }
 
 pub fn inflight_bytes(h: Head) -> u64
     ensures { λ r. ⌜ ((ws : List ℕ) → Counted h ws → r ≡ bytes (senderOf h ws .flight .entries)) ⌝ }
 {
-    outbound_queue::inflight_bytes(h.queue)
+    outbound_asks::inflight_bytes(h.queue)
 }
 
 // The oldest TSN that is neither acknowledged nor abandoned.
@@ -89,7 +89,7 @@ pub fn earliest_outstanding(h: Head, cells: &[u64]) -> Earliest
 {
     let k = sender_head::table_words(cells);
     let n = cells.len();
-    outbound_queue::earliest_outstanding_tsn(h.queue, &cells[k..n])
+    outbound_asks::earliest_outstanding_tsn(h.queue, &cells[k..n])
 }
 
 // Whether a stream has chunks pending.
@@ -98,7 +98,7 @@ pub fn pending_contains_stream(h: Head, cells: &[u64], identifier: u16) -> bool
 {
     let k = sender_head::table_words(cells);
     let n = cells.len();
-    outbound_queue::pending_contains_stream(h.queue, &cells[k..n], identifier)
+    outbound_asks::pending_contains_stream(h.queue, &cells[k..n], identifier)
 }
 
 // Whether a stream has chunks pending or in flight.
@@ -107,5 +107,5 @@ pub fn contains_stream(h: Head, cells: &[u64], identifier: u16) -> bool
 {
     let k = sender_head::table_words(cells);
     let n = cells.len();
-    outbound_queue::contains_stream(h.queue, &cells[k..n], identifier)
+    outbound_asks::contains_stream(h.queue, &cells[k..n], identifier)
 }

@@ -2,11 +2,11 @@
 use mathlib.Core.Path.{sym, _∙_}
 use denote.Ref.{now}
 use Rattle.model.specs.State.{inFlight}
 use Rattle.outbound_queue.specs.Outbound.{ringsIn, flying}
-use Rattle.outbound_queue.specs.Asked.{unknown-is, known-is}
+use Rattle.outbound_asks.specs.Asked.{unknown-is, known-is}
 use borrow.Author.Needs.{needs}
-use Rattle.outbound_queue.proofs.is_abandoned.Statement.{statement}
-use Rattle.outbound_queue.proofs.is_abandoned.Tie as tie
+use Rattle.outbound_asks.proofs.is_abandoned.Statement.{statement}
+use Rattle.outbound_asks.proofs.is_abandoned.Tie as tie
 
 get-requires : tie.Need-get-requires
 get-requires c κs = search needs

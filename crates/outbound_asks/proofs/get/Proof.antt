@@ -1,7 +1,7 @@
 -- The flight's own call, on its third of the cells.
 use borrow.Author.Needs.{needs}
-use Rattle.outbound_queue.proofs.get.Statement.{statement}
-use Rattle.outbound_queue.proofs.get.Tie as tie
+use Rattle.outbound_asks.proofs.get.Statement.{statement}
+use Rattle.outbound_asks.proofs.get.Tie as tie
 
 mul-k : tie.Need-mul-k
 mul-k c = search needs

@@ -3,11 +3,11 @@ use mathlib.Core.Path.{sym, ap, _∙_}
 use mathlib.Core.Bool.{Bool, _||_}
 use denote.Ref.{now}
 use Rattle.model.specs.Flight.{hasStream}
 use Rattle.outbound_queue.specs.Outbound.{ringsIn, waiting, flying}
-use Rattle.outbound_queue.specs.Asked.{stream-in}
+use Rattle.outbound_asks.specs.Asked.{stream-in}
 use borrow.Author.Needs.{needs}
-use Rattle.outbound_queue.proofs.contains_stream.Statement.{statement}
-use Rattle.outbound_queue.proofs.contains_stream.Tie as tie
+use Rattle.outbound_asks.proofs.contains_stream.Statement.{statement}
+use Rattle.outbound_asks.proofs.contains_stream.Tie as tie
 
 pending-contains-stream-requires : tie.Need-pending-contains-stream-requires
 pending-contains-stream-requires c κs = search needs

@@ -1,7 +1,7 @@
 -- The rings' own call, on their thirds of the cells.
 use borrow.Author.Needs.{needs}
-use Rattle.outbound_queue.proofs.pending_contains_stream.Statement.{statement}
-use Rattle.outbound_queue.proofs.pending_contains_stream.Tie as tie
+use Rattle.outbound_asks.proofs.pending_contains_stream.Statement.{statement}
+use Rattle.outbound_asks.proofs.pending_contains_stream.Tie as tie
 
 mul-k : tie.Need-mul-k
 mul-k c = search needs
