@@ -11,6 +11,16 @@ use Rattle.model.specs.declared.Found.{Found}
 use Rattle.model.specs.Flight.{found, isAbandoned, hasStream}
 use Rattle.pending_queue.specs.Queue.{some-in}
 
+-- ---- what code finds is there
+
+pub found-some : (o : Option Chunk) (c : Chunk) → found o ≡ Found.One c → o ≡ some c
+found-some none c e = let z : _≡_ {A = ℕ} 0 1 = cc in absurd (omega arith)
+found-some (some d) c e = let q : d ≡ c = cc in ap some q
+
+pub found-none : (o : Option Chunk) → found o ≡ Found.Nothing → o ≡ none
+found-none none e = refl
+found-none (some d) e = let z : _≡_ {A = ℕ} 0 1 = cc in absurd (omega arith)
+
 -- ---- whether the entry that was found is abandoned
 
 pub unknown-is : (h : Option Chunk) → found h ≡ Found.Nothing → false ≡ isAbandoned h

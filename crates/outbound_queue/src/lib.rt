@@ -1,7 +1,8 @@
 // What is pending and what is in flight, together: a record by value, and the two rings and the flight in one lent slice, a third each.
 // `senderOf` of specs/ reads the model's sender from them, for streams that the queue does not know, and each contract is an equation with
 // the model's call, for every record and every cells. What is asked of it stands in `outbound_asks`, writing in `outbound_push`, sending in
-// `outbound_send`, expiry and abandonment in `outbound_expiry`, and the steps that these take in `outbound_steps`.
+// `outbound_send`, abandonment in `outbound_abandon`, expiry in `outbound_expiry` and `outbound_overdue`, and the steps that these take in
+// `outbound_steps`.
 use model::Found;
 use payload_queue::PayloadQueue;
 use pending_queue::PendingQueue;

@@ -8,7 +8,7 @@ ghost use Rattle.limits.specs.Limits.{room01};
 ghost use Rattle.model.specs.Rings.{expiredInflight};
 ghost use Rattle.model.specs.Flight.{acknowledge, pop, markAll};
 ghost use Rattle.outbound_queue.specs.Outbound.{Does};
-ghost use Rattle.outbound_expiry.specs.Lean.{leanList, listedIn};
+ghost use Rattle.outbound_overdue.specs.Lean.{leanList, listedIn};
 ghost use Rattle.sender.specs.Value.{stateOf, Sums};
 
 // The bytes that the entry held.

@@ -13,7 +13,8 @@ ghost use Rattle.model.specs.Messages.{write};
 ghost use Rattle.model.specs.Rings.{startLifetimes, send, expirePending, expirePendingTail, abandon};
 ghost use Rattle.outbound_queue.specs.Outbound.{Does};
 ghost use Rattle.outbound_send.specs.Lean.{leanStart, leanSend};
-ghost use Rattle.outbound_expiry.specs.Lean.{leanExpire, leanExpireTail, leanAbandon};
+ghost use Rattle.outbound_abandon.specs.Lean.{leanAbandon};
+ghost use Rattle.outbound_expiry.specs.Lean.{leanExpire, leanExpireTail};
 ghost use Rattle.sender.specs.Value.{stateOf, Sums};
 
 pub struct Writing {

@@ -14,7 +14,9 @@ ghost use Rattle.model.specs.Rings.{startLifetimes, send, expirePendingTail, ab
 ghost use Rattle.model.specs.Flight.{acknowledge, pop, markAll};
 ghost use Rattle.outbound_queue.specs.Outbound.{Does};
 ghost use Rattle.outbound_send.specs.Lean.{leanStart, leanSend};
-ghost use Rattle.outbound_expiry.specs.Lean.{leanAbandon, leanExpireTail, leanList, listedIn};
+ghost use Rattle.outbound_abandon.specs.Lean.{leanAbandon};
+ghost use Rattle.outbound_expiry.specs.Lean.{leanExpireTail};
+ghost use Rattle.outbound_overdue.specs.Lean.{leanList, listedIn};
 ghost use Rattle.sender_head.specs.Whole.{roomIn, senderOf, Counted};
 
 pub struct Started {
@@ -108,7 +110,7 @@ pub fn abandon(h: Head, cells: &mut [u64], tsn: u32) -> Abandoning
 {
     let k = sender_head::table_words(cells);
     let n = cells.len();
-    let abandoning = outbound_expiry::abandon(h.queue, &mut cells[k..n], tsn);
+    let abandoning = outbound_abandon::abandon(h.queue, &mut cells[k..n], tsn);
     let queue = abandoning.queue;
     let answer = abandoning.answer;
     Abandoning {
@@ -170,5 +172,5 @@ pub fn expired_inflight(h: Head, cells: &[u64], clock: u64, out: &mut [u32]) -> 
 {
     let k = sender_head::table_words(cells);
     let n = cells.len();
-    outbound_expiry::expired_inflight(h.queue, &cells[k..n], clock, out)
+    outbound_overdue::expired_inflight(h.queue, &cells[k..n], clock, out)
 }

@@ -3,7 +3,7 @@ use mathlib.Core.Path.{_≡_}
 use lib.ListN.{length}
 use Rattle.limits.specs.Limits.{Room}
 use Rattle.model.specs.Rings.{abandon}
-use Rattle.outbound_expiry.specs.Lean.{leanAbandon}
+use Rattle.outbound_abandon.specs.Lean.{leanAbandon}
 use Rattle.sender.specs.Sizes.{sizes}
 use Rattle.sender.specs.Value.{stateOf, does-at}
 use borrow.Author.Needs.{needs}

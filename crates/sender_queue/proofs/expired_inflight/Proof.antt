@@ -4,7 +4,7 @@ use denote.Ref.{now}
 use lib.ListN.{length}
 use Rattle.model.specs.State.{Sender}
 use Rattle.model.specs.Rings.{expiredInflight}
-use Rattle.outbound_expiry.specs.Lean.{leanList, listedIn}
+use Rattle.outbound_overdue.specs.Lean.{leanList, listedIn}
 use Rattle.sender_head.specs.Whole.{roomIn}
 use Rattle.sender_head.specs.Lent.{open-streams, lent-sender, does-of}
 use borrow.Author.Needs.{needs}

@@ -4,10 +4,10 @@ use denote.Ref.{now}
 use borrow.Author.Tests.{not-true, not-false}
 use Rattle.model.specs.Rings.{head}
 use Rattle.outbound_queue.specs.Outbound.{ringsIn, waiting}
-use Rattle.outbound_expiry.specs.Listings.{named-idle, named-none, named-head}
+use Rattle.outbound_overdue.specs.Listings.{named-idle, named-none, named-head}
 use borrow.Author.Needs.{needs}
-use Rattle.outbound_expiry.proofs.under_way.Statement.{statement}
-use Rattle.outbound_expiry.proofs.under_way.Tie as tie
+use Rattle.outbound_overdue.proofs.under_way.Statement.{statement}
+use Rattle.outbound_overdue.proofs.under_way.Tie as tie
 
 returns : tie.Need-returns
 returns c =

@@ -9,10 +9,10 @@ use Rattle.cells.specs.Slots.{limit}
 use Rattle.ring.specs.Sums.{held-bytes}
 use Rattle.pending_queue.specs.Runs.{runs-bytes}
 use Rattle.outbound_queue.specs.Outbound.{ringsIn, ringRoom, waiting, flying, senderOf}
-use Rattle.outbound_expiry.specs.Abandons.{gives-none, gives-one, gives-held, keep-bytes}
+use Rattle.outbound_abandon.specs.Abandons.{gives-none, gives-one, gives-held, keep-bytes}
 use borrow.Author.Needs.{needs}
-use Rattle.outbound_expiry.proofs.give_up.Statement.{statement}
-use Rattle.outbound_expiry.proofs.give_up.Tie as tie
+use Rattle.outbound_abandon.proofs.give_up.Statement.{statement}
+use Rattle.outbound_abandon.proofs.give_up.Tie as tie
 
 give-up-entries-requires : tie.Need-give-up-entries-requires
 give-up-entries-requires c κs = search needs

@@ -3,11 +3,11 @@ use mathlib.Core.Path.{ap}
 use denote.Ref.{now}
 use lib.ListN.{length}
 use Rattle.outbound_queue.specs.Outbound.{senderOf, does}
-use Rattle.outbound_expiry.specs.Lean.{listedIn}
-use Rattle.outbound_expiry.specs.Listings.{lean-list, list-late, list-is}
+use Rattle.outbound_overdue.specs.Lean.{listedIn}
+use Rattle.outbound_overdue.specs.Listings.{lean-list, list-late, list-is}
 use borrow.Author.Needs.{needs}
-use Rattle.outbound_expiry.proofs.expired_inflight.Statement.{statement}
-use Rattle.outbound_expiry.proofs.expired_inflight.Tie as tie
+use Rattle.outbound_overdue.proofs.expired_inflight.Statement.{statement}
+use Rattle.outbound_overdue.proofs.expired_inflight.Tie as tie
 
 returns : tie.Need-returns
 returns c =

@@ -30,7 +30,7 @@ use Rattle.payload_queue.specs.Queue.{isAwaited, overdueTsns, listed, written}
 use Rattle.payload_queue.specs.Model.{Names, expired-is}
 use Rattle.pending_queue.specs.Queue.{underWayOf, some-in}
 use Rattle.outbound_queue.specs.Outbound.{Good}
-use Rattle.outbound_expiry.specs.Lean.{named, leanList, listedIn}
+use Rattle.outbound_overdue.specs.Lean.{named, leanList, listedIn}
 
 -- ---- the message that is named, as code finds it
 

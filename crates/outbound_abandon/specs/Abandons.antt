@@ -1,4 +1,4 @@
--- A message is abandoned, by a TSN or because its rest expires: what each way out of the two calls comes to, of a sender that is a variable.
+-- A message is abandoned: what each way out of the calls comes to, of a sender that is a variable.
 use mathlib.Core.Path.{_≡_, refl, sym, ap, ap₂, _∙_}
 use mathlib.Core.Logic.{_≢_}
 use mathlib.Core.Bool.{Bool, true, false, not}
@@ -7,27 +7,24 @@ use mathlib.Core.List.{List, [], _∷_, _++_, map, append-nil}
 use Prim.Native.Nat.{ℕ, zero, suc, _+_, _≤_, _<_}
 use native.Mathlib.Omega.{arith}
 use lib.ListN.{length, getElem?, length-map}
-use lib.Dec.{ltb}
-use borrow.Author.Tests.{lt-ltb, le-ltb, eq-eqb}
-use Rattle.limits.specs.Limits.{Room, clockMax}
-use Rattle.limits.specs.Refusals.{beyondLimit}
+use borrow.Author.Tests.{lt-ltb, eq-eqb}
+use Rattle.limits.specs.Limits.{Room}
 use Rattle.model.specs.declared.Abandoned.{Abandoned}
 use Rattle.model.specs.declared.Chunk.{Chunk}
 use Rattle.model.specs.declared.Found.{Found}
 use Rattle.model.specs.declared.Lane.{Lane}
 use Rattle.model.specs.declared.Lane.the-variants.{Unordered, Ordered}
-use Rattle.model.specs.declared.TailExpired.{TailExpired}
 use Rattle.model.specs.Lists.{if_then_else_, keep, last}
 use Rattle.model.specs.State.{Sender, Pending, Flight, Out, same, at, place, inFlight, isOf, withPending}
-use Rattle.model.specs.Rings.{head, bytes, pendingOf, without, givenUp, terminator, terminators, abandoned, heldBy, abandoning, abandon, tailExpires, tailExpiring, expirePendingTail}
+use Rattle.model.specs.Rings.{bytes, pendingOf, without, givenUp, terminator, terminators, abandoned, heldBy, abandoning, abandon}
 use Rattle.model.specs.Flight.{found}
 use Rattle.demands.specs.States.{Has, dropRun}
 use Rattle.payload_queue.specs.Queue.{changed, filed}
 use Rattle.payload_queue.specs.Model.{withFlight}
 use Rattle.pending_queue.specs.Runs.{runs, withoutRuns, runs-without, runs-pending}
 use Rattle.outbound_queue.specs.Outbound.{Good}
-use Rattle.outbound_expiry.specs.Lean.{closedBy, leanlyAbandoned, leanlyHeld, leanlyAbandoning, leanAbandon, leanlyTailExpiring, leanExpireTail}
-use Rattle.outbound_expiry.specs.Expiry.{found-some, found-none}
+use Rattle.outbound_abandon.specs.Lean.{closedBy, leanlyAbandoned, leanlyHeld, leanlyAbandoning, leanAbandon}
+use Rattle.outbound_asks.specs.Asked.{found-some, found-none}
 
 -- ---- in a Good state the leading runs are the whole message, and its terminator has a place
 
@@ -68,14 +65,14 @@ module _ (room : Room) (s : Sender) (n : ℕ)
       ap (λ (b : Bool). record { oldest = s .flight .oldest; entries = if b then map (givenUp n) (s .flight .entries) ++ (terminator c ∷ []) else map (givenUp n) (s .flight .entries) })
       (lt-ltb (length (map (givenUp n) (s .flight .entries))) (room .flight) (omega (arith, length-map (s .flight .entries) (givenUp n), place-left c e)))
 
-  lean-abandoned : leanlyAbandoned room n s ≡ abandoned n s
+  pub lean-abandoned : leanlyAbandoned room n s ≡ abandoned n s
   unfolding leanlyAbandoned
   lean-abandoned =
       ap₂ (λ (p : Pending) (l : List Chunk). record { streams = s .streams; pending = p; flight = closedBy (room .flight) (last l) (changed (map (givenUp n)) (s .flight)); numbers = s .numbers })
       (runs-without n (s .pending) run) (runs-pending n (s .pending) run)
       ∙ ap (λ (f : Flight). record { streams = s .streams; pending = without n (s .pending); flight = f; numbers = s .numbers }) (closed (last (pendingOf n (s .pending))) refl)
 
-  lean-held : leanlyHeld n s ≡ heldBy n s
+  pub lean-held : leanlyHeld n s ≡ heldBy n s
   unfolding leanlyHeld
   lean-held = ap (λ (l : List Chunk). bytes (keep (isOf n) (s .flight .entries)) + bytes l) (runs-pending n (s .pending) run)
 
@@ -93,29 +90,6 @@ module _ {room : Room} {s : Sender} (g : Good room s) where
           let left : (d : Chunk) → last (pendingOf n (s .pending)) ≡ some d → length (s .flight .entries) < room .flight = λ d q. let z = in-ring n (s .pending) d q in g .terminatorRoom n (g .partly (z .0) n (z .1) f) in
           ap₂ (λ (a : Sender) (k : ℕ). if c .abandoned then same (Abandoned.Message (c .message .stream) 0) s else record { after = a; says = Abandoned.Message (c .message .stream) k })
           (lean-abandoned room s n run left) (lean-held room s n run left)
-
-  pub lean-expire-tail : (now : ℕ) → leanExpireTail room now s ≡ expirePendingTail now s
-  unfolding leanExpireTail expirePendingTail
-  lean-expire-tail now = ap (λ (r : Out TailExpired). if ltb clockMax now then same (TailExpired.Refused beyondLimit) s else r) (by (head (s .pending)) refl)
-    where
-      told : Chunk → Sender → ℕ → Out TailExpired
-      told c a k = record { after = a; says = TailExpired.Message (c .message .stream) (c .message .number) k }
-
-      goes : (c : Chunk) → head (s .pending) ≡ some c → c .beginning ≡ false
-          → told c (leanlyAbandoned room (c .message .number) s) (leanlyHeld (c .message .number) s) ≡ told c (abandoned (c .message .number) s) (heldBy (c .message .number) s)
-      goes c e b =
-          let n = c .message .number in
-          let run = g .headRun c e in
-          let left : (d : Chunk) → last (pendingOf n (s .pending)) ≡ some d → length (s .flight .entries) < room .flight = λ d q. g .terminatorRoom n (g .headRest c e b) in
-          ap₂ (told c) (lean-abandoned room s n run left) (lean-held room s n run left)
-
-      by : (o : Option Chunk) → head (s .pending) ≡ o → leanlyTailExpiring o room now s ≡ tailExpiring o now s
-      by none e = refl
-      by (some c) e = at-flag (c .beginning) refl
-        where
-          at-flag : (b : Bool) → c .beginning ≡ b → leanlyTailExpiring (some c) room now s ≡ tailExpiring (some c) now s
-          at-flag true q = rw q refl
-          at-flag false q = ap (λ (r : Out TailExpired). if tailExpires now c then r else same TailExpired.Nothing s) (goes c e q)
 
 -- ---- what the code gives up: from `s` to `x` the message's entries are marked, from `x` to `y` its pending chunks go, and from `y` to `z` a
 -- terminator is filed, at the room `k`
@@ -185,33 +159,3 @@ module _ (room : Room) (t : ℕ) (s : Sender) where
     abandon-one q v w =
         ap₂ (λ (a : Sender) (k : ℕ). record { after = a; says = Abandoned.Message (c .message .stream) k }) v w
         ∙ at-entry (some c) (found-some (inFlight t (s .flight)) c e) (sym (ap picks q))
-
-module _ (room : Room) (now : ℕ) (s : Sender) where
-  pub tail-late : clockMax < now → same (TailExpired.Refused beyondLimit) s ≡ leanExpireTail room now s
-  unfolding leanExpireTail
-  tail-late h = sym (ap (λ (b : Bool). if b then same (TailExpired.Refused beyondLimit) s else leanlyTailExpiring (head (s .pending)) room now s) (lt-ltb clockMax now h))
-
-  module _ (h : now ≤ clockMax) where
-    at-head : (o : Option Chunk) {r : Out TailExpired} → head (s .pending) ≡ o → r ≡ leanlyTailExpiring o room now s → r ≡ leanExpireTail room now s
-    unfolding leanExpireTail
-    at-head o e q =
-        q ∙ sym (ap (λ (y : Option Chunk). leanlyTailExpiring y room now s) e)
-        ∙ sym (ap (λ (b : Bool). if b then same (TailExpired.Refused beyondLimit) s else leanlyTailExpiring (head (s .pending)) room now s) (le-ltb clockMax now h))
-
-    pub tail-none : found (head (s .pending)) ≡ Found.Nothing → same TailExpired.Nothing s ≡ leanExpireTail room now s
-    tail-none e = at-head none (found-none (head (s .pending)) e) refl
-
-    module _ (c : Chunk) (e : found (head (s .pending)) ≡ Found.One c) where
-      abbrev leaves : Bool → Out TailExpired
-      leaves b =
-          if b then record { after = leanlyAbandoned room (c .message .number) s; says = TailExpired.Message (c .message .stream) (c .message .number) (leanlyHeld (c .message .number) s) }
-          else same TailExpired.Nothing s
-
-      pub tail-not : tailExpires now c ≡ false → same TailExpired.Nothing s ≡ leanExpireTail room now s
-      tail-not q = at-head (some c) (found-some (head (s .pending)) c e) (sym (ap leaves q))
-
-      pub tail-one : tailExpires now c ≡ true → {after : Sender} {n : ℕ} → after ≡ leanlyAbandoned room (c .message .number) s → n ≡ leanlyHeld (c .message .number) s
-          → record { after = after; says = TailExpired.Message (c .message .stream) (c .message .number) n } ≡ leanExpireTail room now s
-      tail-one q v w =
-          ap₂ (λ (a : Sender) (k : ℕ). record { after = a; says = TailExpired.Message (c .message .stream) (c .message .number) k }) v w
-          ∙ at-head (some c) (found-some (head (s .pending)) c e) (sym (ap leaves q))

@@ -2,10 +2,10 @@
 use mathlib.Core.Path.{sym, _∙_}
 use denote.Ref.{now}
 use Rattle.outbound_queue.specs.Outbound.{senderOf, does}
-use Rattle.outbound_expiry.specs.Abandons.{lean-abandon, abandon-none, abandon-again, abandon-one}
+use Rattle.outbound_abandon.specs.Abandons.{lean-abandon, abandon-none, abandon-again, abandon-one}
 use borrow.Author.Needs.{needs}
-use Rattle.outbound_expiry.proofs.abandon.Statement.{statement}
-use Rattle.outbound_expiry.proofs.abandon.Tie as tie
+use Rattle.outbound_abandon.proofs.abandon.Statement.{statement}
+use Rattle.outbound_abandon.proofs.abandon.Tie as tie
 
 get-requires : tie.Need-get-requires
 get-requires c κs = search needs
