@@ -87,7 +87,7 @@ pub fn next_tsn(q: PayloadQueue, cells: &[u64]) -> u32
 pub fn contains_stream(q: PayloadQueue, cells: &[u64], stream: u16) -> bool
     ensures { λ r. ⌜ r ≡ hasStream stream (flightOf q (now (cells .entry)) .entries) ⌝ }
 {
-    ring::has_stream(q.ring, cells, stream)
+    ring_parts::has_stream(q.ring, cells, stream)
 }
 
 fn is_outstanding(chunk: Chunk) -> bool
@@ -225,7 +225,7 @@ fn give_up_all(ring: Ring, cells: &mut [u64], number: u64) -> u64
     let mut sum: u64 = 0;
     let mut i = 0;
     while i < n {
-        let released = ring::give_up_nth(ring, cells, i, number);
+        let released = ring_parts::give_up_nth(ring, cells, i, number);
         sum += released as u64;
         i += 1;
     }
@@ -257,7 +257,7 @@ pub fn mark_all_to_retransmit(q: PayloadQueue, cells: &mut [u64])
     let n = ring::count(ring, cells);
     let mut i = 0;
     while i < n {
-        ring::mark_nth(ring, cells, i);
+        ring_parts::mark_nth(ring, cells, i);
         i += 1;
     }
 }

@@ -158,12 +158,12 @@ pub fn start_timed_messages(ring: Ring, cells: &mut [u64], clock: u64, first: u6
 {
     let mut i = ring::count(ring, cells);
     while 0 < i {
-        let number = ring::nth_number(ring, cells, i - 1);
+        let number = ring_parts::nth_number(ring, cells, i - 1);
         if number < first {
             return;
         }
         i -= 1;
-        ring::start_nth(ring, cells, i, clock, first);
+        ring_parts::start_nth(ring, cells, i, clock, first);
     }
 }
 
@@ -268,7 +268,7 @@ pub fn compact_ordered_ssns(queue: PendingQueue, ordered: &mut [u64], stream: u1
     let n = ring::count(ring, ordered);
     let mut i = 0;
     while i < n {
-        ring::lower_nth(ring, ordered, i, stream);
+        ring_parts::lower_nth(ring, ordered, i, stream);
         i += 1;
     }
 }
@@ -294,7 +294,7 @@ fn has_message(ring: Ring, cells: &[u64], number: u64) -> bool
     let n = ring::count(ring, cells);
     let mut i = 0;
     while i < n {
-        if ring::nth_number(ring, cells, i) == number {
+        if ring_parts::nth_number(ring, cells, i) == number {
             return true;
         }
         i += 1;
@@ -319,8 +319,8 @@ pub fn contains_message(
 pub fn contains_stream(queue: PendingQueue, unordered: &[u64], ordered: &[u64], stream: u16) -> bool
     ensures { λ r. ⌜ r ≡ hasStream stream (held (queue .unordered) (now (unordered .entry)) ++ held (queue .ordered) (now (ordered .entry))) ⌝ }
 {
-    if ring::has_stream(queue.unordered, unordered, stream) {
+    if ring_parts::has_stream(queue.unordered, unordered, stream) {
         return true;
     }
-    ring::has_stream(queue.ordered, ordered, stream)
+    ring_parts::has_stream(queue.ordered, ordered, stream)
 }

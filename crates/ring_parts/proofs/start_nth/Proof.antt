@@ -3,10 +3,10 @@ use Prim.Native.Nat.{min}
 use denote.Ref.{now}
 use Rattle.limits.specs.Limits.{clockMax}
 use Rattle.model.specs.Rings.{started}
 use Rattle.ring.specs.Held.{held-adjust}
 use borrow.Author.Needs.{needs}
-use Rattle.ring.proofs.start_nth.Statement.{statement}
-use Rattle.ring.proofs.start_nth.Tie as tie
+use Rattle.ring_parts.proofs.start_nth.Statement.{statement}
+use Rattle.ring_parts.proofs.start_nth.Tie as tie
 
 slot-requires : tie.Need-slot-requires
 slot-requires c κs = search needs

@@ -3,10 +3,10 @@ use mathlib.Core.Path.{_∙_, ap}
 use denote.Ref.{now}
 use Rattle.model.specs.Rings.{givenUp}
 use Rattle.chunk_parts.specs.Changes.{heldOf}
 use Rattle.ring.specs.Held.{held-get, held-adjust}
 use borrow.Author.Needs.{needs}
-use Rattle.ring.proofs.give_up_nth.Statement.{statement}
-use Rattle.ring.proofs.give_up_nth.Tie as tie
+use Rattle.ring_parts.proofs.give_up_nth.Statement.{statement}
+use Rattle.ring_parts.proofs.give_up_nth.Tie as tie
 
 slot-requires : tie.Need-slot-requires
 slot-requires c κs = search needs

@@ -2,10 +2,10 @@
 use mathlib.Core.Path.{_∙_, ap}
 use denote.Ref.{now}
 use Rattle.model.specs.declared.Chunk.{Chunk}
 use Rattle.ring.specs.Held.{held-get}
 use borrow.Author.Needs.{needs}
-use Rattle.ring.proofs.nth_number.Statement.{statement}
-use Rattle.ring.proofs.nth_number.Tie as tie
+use Rattle.ring_parts.proofs.nth_number.Statement.{statement}
+use Rattle.ring_parts.proofs.nth_number.Tie as tie
 
 slot-requires : tie.Need-slot-requires
 slot-requires c κs = search needs

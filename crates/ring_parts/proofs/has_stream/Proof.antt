@@ -11,10 +11,10 @@ use Rattle.model.specs.Flight.{hasStream}
 use Rattle.rows.specs.Turns.{read-turn, rest-none}
 use Rattle.rows.specs.Walks.{some-hit, some-miss}
 use Rattle.chunk_slot.specs.Chunks.{blankChunk}
 use Rattle.ring.specs.Held.{held}
 use borrow.Author.Needs.{needs}
-use Rattle.ring.proofs.has_stream.Statement.{statement}
-use Rattle.ring.proofs.has_stream.Tie as tie
+use Rattle.ring_parts.proofs.has_stream.Statement.{statement}
+use Rattle.ring_parts.proofs.has_stream.Tie as tie
 
 abbrev Inv-loop : tie.InvT-loop
 Inv-loop ring cells stream n i₀ i = (i ≤ n) × (hasStream stream (drop i (held ring cells)) ≡ hasStream stream (held ring cells))

@@ -1,10 +1,10 @@
 -- The slot is the i-th of `held`, so what changes there changes the i-th.
 use denote.Ref.{now}
 use Rattle.model.specs.Rings.{lowered}
 use Rattle.ring.specs.Held.{held-adjust}
 use borrow.Author.Needs.{needs}
-use Rattle.ring.proofs.lower_nth.Statement.{statement}
-use Rattle.ring.proofs.lower_nth.Tie as tie
+use Rattle.ring_parts.proofs.lower_nth.Statement.{statement}
+use Rattle.ring_parts.proofs.lower_nth.Tie as tie
 
 slot-requires : tie.Need-slot-requires
 slot-requires c κs = search needs
