@@ -59,7 +59,7 @@ pub fn contains_stream(q: OutboundQueue, cells: &[u64], stream: u16) -> bool
         return true;
     }
     let k = cells.len() / 24 * 8;
-    payload_queue::contains_stream(q.inflight, &cells[k + k..k + k + k], stream)
+    payload_asks::contains_stream(q.inflight, &cells[k + k..k + k + k], stream)
 }
 
 pub fn pending_len(q: OutboundQueue, cells: &[u64]) -> usize
@@ -80,13 +80,13 @@ pub fn inflight_len(q: OutboundQueue, cells: &[u64]) -> usize
     ensures { λ r. ⌜ r ≡ length (flying q (ringsIn (now (cells .entry))) .entries) ⌝ }
 {
     let k = cells.len() / 24 * 8;
-    payload_queue::len(q.inflight, &cells[k + k..k + k + k])
+    payload_asks::len(q.inflight, &cells[k + k..k + k + k])
 }
 
 pub fn inflight_bytes(q: OutboundQueue) -> u64
     ensures { λ r. ⌜ ((ws : List ℕ) → Counted q ws → r ≡ bytes (flying q (ringsIn ws) .entries)) ⌝ }
 {
-    payload_queue::bytes(q.inflight)
+    payload_asks::bytes(q.inflight)
 }
 
 // The TSN of the next chunk that is sent.
@@ -94,7 +94,7 @@ pub fn next_tsn(q: OutboundQueue, cells: &[u64]) -> u32
     ensures { λ r. ⌜ ((ts : List Stream) → r ≡ nextTsn (senderOf ts q (now (cells .entry)))) ⌝ }
 {
     let k = cells.len() / 24 * 8;
-    payload_queue::next_tsn(q.inflight, &cells[k + k..k + k + k])
+    payload_asks::next_tsn(q.inflight, &cells[k + k..k + k + k])
 }
 
 // The oldest TSN that is neither acknowledged nor abandoned.
@@ -102,5 +102,5 @@ pub fn earliest_outstanding_tsn(q: OutboundQueue, cells: &[u64]) -> Earliest
     ensures { λ r. ⌜ ((ts : List Stream) → r ≡ earliestOutstanding (senderOf ts q (now (cells .entry)))) ⌝ }
 {
     let k = cells.len() / 24 * 8;
-    payload_queue::earliest_outstanding(q.inflight, &cells[k + k..k + k + k])
+    payload_asks::earliest_outstanding(q.inflight, &cells[k + k..k + k + k])
 }

@@ -72,7 +72,7 @@ pub fn mark_as_acked(q: OutboundQueue, cells: &mut [u64], tsn: u32) -> Acked
     ensures { λ r. ⌜ ((ts : List Stream) → record { after = senderOf ts (r .queue) (now (cells .exit)); says = r .bytes } ≡ acknowledge tsn (senderOf ts q (now (cells .entry)))) × (Counted q (now (cells .entry)) → Counted (r .queue) (now (cells .exit))) ⌝ }
 {
     let k = cells.len() / 24 * 8;
-    let marked = payload_queue::mark_as_acked(q.inflight, &mut cells[k + k..k + k + k], tsn);
+    let marked = payload_marks::mark_as_acked(q.inflight, &mut cells[k + k..k + k + k], tsn);
     let pending = q.pending;
     let inflight = marked.queue;
     Acked {
@@ -91,5 +91,5 @@ pub fn mark_all_to_retransmit(q: OutboundQueue, cells: &mut [u64])
     ensures { λ _. ⌜ ((ts : List Stream) → senderOf ts q (now (cells .exit)) ≡ markAll (senderOf ts q (now (cells .entry)))) × (Counted q (now (cells .entry)) → Counted q (now (cells .exit))) ⌝ }
 {
     let k = cells.len() / 24 * 8;
-    payload_queue::mark_all_to_retransmit(q.inflight, &mut cells[k + k..k + k + k])
+    payload_marks::mark_all_to_retransmit(q.inflight, &mut cells[k + k..k + k + k])
 }

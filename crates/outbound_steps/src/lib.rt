@@ -181,7 +181,7 @@ pub fn is_full(q: OutboundQueue, cells: &[u64]) -> bool
 {
     let k = cells.len() / 24 * 8;
     let room = cells::room(&cells[k + k..k + k + k]);
-    room <= payload_queue::len(q.inflight, &cells[k + k..k + k + k]) + 1
+    room <= payload_asks::len(q.inflight, &cells[k + k..k + k + k]) + 1
 }
 
 // A chunk goes behind the entries, where there is room.
@@ -204,7 +204,7 @@ pub fn give_up_entries(q: OutboundQueue, cells: &mut [u64], number: u64) -> Free
     ensures { λ r. ⌜ ((ts : List Stream) → senderOf ts (r .queue) (now (cells .exit)) ≡ withFlight (changed (map (givenUp number)) (flying q (ringsIn (now (cells .entry))))) (senderOf ts q (now (cells .entry)))) × (r .bytes ≡ bytes (keep (isOf number) (flying q (ringsIn (now (cells .entry))) .entries))) × (Counted q (now (cells .entry)) → Counted (r .queue) (now (cells .exit))) ⌝ }
 {
     let k = cells.len() / 24 * 8;
-    let freed = payload_queue::abandon_message(q.inflight, &mut cells[k + k..k + k + k], number);
+    let freed = payload_marks::abandon_message(q.inflight, &mut cells[k + k..k + k + k], number);
     let pending = q.pending;
     let inflight = freed.queue;
     Freed {

@@ -4,11 +4,11 @@ use native.Mathlib.Omega.{arith}
 use denote.Ref.{now}
 use Rattle.model.specs.Rings.{bytes}
 use Rattle.ring.specs.Held.{held}
 use Rattle.payload_queue.specs.Sums.{bytes-given, counted-less}
 use Rattle.payload_queue.specs.Cases.{entries-are}
 use borrow.Author.Needs.{needs}
-use Rattle.payload_queue.proofs.abandon_message.Statement.{statement}
-use Rattle.payload_queue.proofs.abandon_message.Tie as tie
+use Rattle.payload_marks.proofs.abandon_message.Statement.{statement}
+use Rattle.payload_marks.proofs.abandon_message.Tie as tie
 
 give-up-all-requires : tie.Need-give-up-all-requires
 give-up-all-requires c κs = search needs

@@ -1,7 +1,7 @@
 -- Field by field.
 use mathlib.Core.Path.{refl}
-use Rattle.payload_queue.proofs.acknowledge.Statement.{statement}
-use Rattle.payload_queue.proofs.acknowledge.Tie as tie
+use Rattle.payload_marks.proofs.acknowledge.Statement.{statement}
+use Rattle.payload_marks.proofs.acknowledge.Tie as tie
 
 returns : tie.Need-returns
 returns c = refl

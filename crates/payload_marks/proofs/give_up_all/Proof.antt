@@ -14,8 +14,8 @@ use Rattle.chunk_slot.specs.Chunks.{blankChunk}
 use Rattle.chunk_parts.specs.Changes.{heldOf}
 use Rattle.ring.specs.Held.{held, held-limit}
 use borrow.Author.Needs.{needs}
-use Rattle.payload_queue.proofs.give_up_all.Statement.{statement}
-use Rattle.payload_queue.proofs.give_up_all.Tie as tie
+use Rattle.payload_marks.proofs.give_up_all.Statement.{statement}
+use Rattle.payload_marks.proofs.give_up_all.Tie as tie
 
 abbrev Inv-loop : tie.InvT-loop
 Inv-loop ring cells₀ number n sum₀ i₀ cells sum i =

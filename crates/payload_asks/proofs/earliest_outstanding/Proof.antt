@@ -11,10 +11,10 @@ use Rattle.model.specs.Flight.{outstanding, earliest}
 use Rattle.rows.specs.Turns.{read-turn, rest-none}
 use Rattle.chunk_slot.specs.Chunks.{blankChunk}
 use Rattle.ring.specs.Held.{held}
 use Rattle.payload_queue.specs.Listing.{tsns-hit, tsns-miss}
 use borrow.Author.Needs.{needs}
-use Rattle.payload_queue.proofs.earliest_outstanding.Statement.{statement}
-use Rattle.payload_queue.proofs.earliest_outstanding.Tie as tie
+use Rattle.payload_asks.proofs.earliest_outstanding.Statement.{statement}
+use Rattle.payload_asks.proofs.earliest_outstanding.Tie as tie
 
 abbrev Inv-loop : tie.InvT-loop
 Inv-loop cells ring n tsn₀ i₀ tsn i = (i ≤ n) × (earliest (tsnsOf outstanding tsn (drop i (held ring cells))) ≡ earliest (tsnsOf outstanding tsn₀ (held ring cells)))

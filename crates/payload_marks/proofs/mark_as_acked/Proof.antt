@@ -9,12 +9,12 @@ use Rattle.model.specs.State.{place}
 use Rattle.model.specs.Rings.{bytes}
 use Rattle.chunk_slot.specs.Chunks.{blankChunk}
 use Rattle.ring.specs.Held.{held}
 use Rattle.payload_queue.specs.Queue.{flightOf}
 use Rattle.payload_queue.specs.Sums.{bytes-acked, counted-less}
 use Rattle.payload_queue.specs.Cases.{entries-are, acked-put, held-at}
 use borrow.Author.Needs.{needs}
-use Rattle.payload_queue.proofs.mark_as_acked.Statement.{statement}
-use Rattle.payload_queue.proofs.mark_as_acked.Tie as tie
+use Rattle.payload_marks.proofs.mark_as_acked.Statement.{statement}
+use Rattle.payload_marks.proofs.mark_as_acked.Tie as tie
 
 place-requires : tie.Need-place-requires
 place-requires c κs = search needs

@@ -1,7 +1,7 @@
 -- The entries are what the ring holds.
 use borrow.Author.Needs.{needs}
-use Rattle.payload_queue.proofs.contains_stream.Statement.{statement}
-use Rattle.payload_queue.proofs.contains_stream.Tie as tie
+use Rattle.payload_asks.proofs.contains_stream.Statement.{statement}
+use Rattle.payload_asks.proofs.contains_stream.Tie as tie
 
 has-stream-requires : tie.Need-has-stream-requires
 has-stream-requires c κs = search needs

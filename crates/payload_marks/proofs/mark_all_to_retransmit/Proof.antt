@@ -8,11 +8,11 @@ use Rattle.model.specs.Rings.{bytes}
 use Rattle.model.specs.Flight.{toRetransmit}
 use Rattle.rows.specs.Turns.{Mapped, map-turn, map-done}
 use Rattle.ring.specs.Held.{held}
 use Rattle.payload_queue.specs.Sums.{bytes-marked}
 use Rattle.payload_queue.specs.Cases.{entries-are}
 use borrow.Author.Needs.{needs}
-use Rattle.payload_queue.proofs.mark_all_to_retransmit.Statement.{statement}
-use Rattle.payload_queue.proofs.mark_all_to_retransmit.Tie as tie
+use Rattle.payload_marks.proofs.mark_all_to_retransmit.Statement.{statement}
+use Rattle.payload_marks.proofs.mark_all_to_retransmit.Tie as tie
 
 abbrev Inv-loop : tie.InvT-loop
 Inv-loop cells₀ ring n i₀ cells i = (i ≤ n) × (length cells ≡ length cells₀) × Mapped toRetransmit (held ring cells₀) i (held ring cells)

@@ -3,8 +3,8 @@ use native.Mathlib.Omega.{arith}
 use denote.Ref.{now}
 use Rattle.ring.specs.Held.{held-limit}
 use borrow.Author.Needs.{needs}
-use Rattle.payload_queue.proofs.next_tsn.Statement.{statement}
-use Rattle.payload_queue.proofs.next_tsn.Tie as tie
+use Rattle.payload_asks.proofs.next_tsn.Statement.{statement}
+use Rattle.payload_asks.proofs.next_tsn.Tie as tie
 
 count-requires : tie.Need-count-requires
 count-requires c κs = search needs
