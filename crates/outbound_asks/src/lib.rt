@@ -49,7 +49,7 @@ pub fn pending_contains_stream(q: OutboundQueue, cells: &[u64], stream: u16) -> 
     ensures { λ r. ⌜ r ≡ hasStream stream (waiting q (ringsIn (now (cells .entry))) .unordered ++ waiting q (ringsIn (now (cells .entry))) .ordered) ⌝ }
 {
     let k = cells.len() / 24 * 8;
-    pending_queue::contains_stream(q.pending, &cells[0..k], &cells[k..k + k], stream)
+    pending_asks::contains_stream(q.pending, &cells[0..k], &cells[k..k + k], stream)
 }
 
 pub fn contains_stream(q: OutboundQueue, cells: &[u64], stream: u16) -> bool
@@ -66,14 +66,14 @@ pub fn pending_len(q: OutboundQueue, cells: &[u64]) -> usize
     ensures { λ r. ⌜ r ≡ length (waiting q (ringsIn (now (cells .entry))) .unordered) + length (waiting q (ringsIn (now (cells .entry))) .ordered) ⌝ }
 {
     let k = cells.len() / 24 * 8;
-    pending_queue::len(q.pending, &cells[0..k], &cells[k..k + k])
+    pending_asks::len(q.pending, &cells[0..k], &cells[k..k + k])
 }
 
 // In constant time, as the bytes in flight are.
 pub fn pending_bytes(q: OutboundQueue) -> u64
     ensures { λ r. ⌜ ((ws : List ℕ) → Counted q ws → r ≡ bytes (waiting q (ringsIn ws) .unordered) + bytes (waiting q (ringsIn ws) .ordered)) ⌝ }
 {
-    pending_queue::bytes(q.pending)
+    pending_asks::bytes(q.pending)
 }
 
 pub fn inflight_len(q: OutboundQueue, cells: &[u64]) -> usize

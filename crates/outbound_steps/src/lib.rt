@@ -94,7 +94,7 @@ pub fn remove_pending(q: OutboundQueue, cells: &[u64], number: u64) -> Removed
     ensures { λ r. ⌜ ((ts : List Stream) → senderOf ts (r .queue) (now (cells .entry)) ≡ withPending (withoutRuns number (waiting q (ringsIn (now (cells .entry))))) (senderOf ts q (now (cells .entry)))) × (r .bytes ≡ bytes (runs number (waiting q (ringsIn (now (cells .entry)))))) × (r .last ≡ found (last (runs number (waiting q (ringsIn (now (cells .entry))))))) × (Counted q (now (cells .entry)) → Counted (r .queue) (now (cells .entry))) ⌝ }
 {
     let k = cells.len() / 24 * 8;
-    let rest = pending_queue::remove_message(q.pending, &cells[0..k], &cells[k..k + k], number);
+    let rest = pending_removal::remove_message(q.pending, &cells[0..k], &cells[k..k + k], number);
     let pending = rest.queue;
     let inflight = q.inflight;
     let last = rest.last;
@@ -115,7 +115,7 @@ pub fn lower_ssns(q: OutboundQueue, cells: &mut [u64], stream: u16)
     ensures { λ _. ⌜ ((ts : List Stream) → senderOf ts q (now (cells .exit)) ≡ withPending (withRing Ordered (waiting q (ringsIn (now (cells .entry))) .underWay) (map (lowered stream) (waiting q (ringsIn (now (cells .entry))) .ordered)) (waiting q (ringsIn (now (cells .entry))))) (senderOf ts q (now (cells .entry)))) × (Counted q (now (cells .entry)) → Counted q (now (cells .exit))) ⌝ }
 {
     let k = cells.len() / 24 * 8;
-    pending_queue::compact_ordered_ssns(q.pending, &mut cells[k..k + k], stream)
+    pending_removal::compact_ordered_ssns(q.pending, &mut cells[k..k + k], stream)
 }
 
 // A message's fragments join the back of its ring. Where there is no room for all of them, or the offset is beyond its limit, nothing

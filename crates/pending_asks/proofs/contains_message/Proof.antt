@@ -5,10 +5,10 @@ use denote.Ref.{now}
 use Rattle.model.specs.Lists.{some-of}
 use Rattle.model.specs.State.{isOf}
 use Rattle.ring.specs.Held.{held}
 use Rattle.pending_queue.specs.Queue.{some-in}
 use borrow.Author.Needs.{needs}
-use Rattle.pending_queue.proofs.contains_message.Statement.{statement}
-use Rattle.pending_queue.proofs.contains_message.Tie as tie
+use Rattle.pending_asks.proofs.contains_message.Statement.{statement}
+use Rattle.pending_asks.proofs.contains_message.Tie as tie
 
 has-message-requires : tie.Need-has-message-requires
 has-message-requires c κs = search needs

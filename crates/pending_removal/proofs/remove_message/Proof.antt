@@ -7,11 +7,11 @@ use Rattle.model.specs.State.{Pending, isOf}
 use Rattle.model.specs.Rings.{bytes}
 use Rattle.rows.specs.Walks.{takeWhile}
 use Rattle.ring.specs.Sums.{bytes-append}
 use Rattle.pending_queue.specs.Queue.{pendingIn, bytesIn, both, counted-less}
 use Rattle.pending_queue.specs.Runs.{laterOf, runs, runs-bytes, last-append}
 use borrow.Author.Needs.{needs}
-use Rattle.pending_queue.proofs.remove_message.Statement.{statement}
-use Rattle.pending_queue.proofs.remove_message.Tie as tie
+use Rattle.pending_removal.proofs.remove_message.Statement.{statement}
+use Rattle.pending_removal.proofs.remove_message.Tie as tie
 
 still-selected-requires : tie.Need-still-selected-requires
 still-selected-requires c κs = search needs

@@ -12,8 +12,8 @@ use Rattle.rows.specs.Walks.{some-hit, some-miss}
 use Rattle.chunk_slot.specs.Chunks.{blankChunk}
 use Rattle.ring.specs.Held.{held}
 use borrow.Author.Needs.{needs}
-use Rattle.pending_queue.proofs.has_message.Statement.{statement}
-use Rattle.pending_queue.proofs.has_message.Tie as tie
+use Rattle.pending_asks.proofs.has_message.Statement.{statement}
+use Rattle.pending_asks.proofs.has_message.Tie as tie
 
 abbrev Inv-loop : tie.InvT-loop
 Inv-loop ring cells number n i₀ i = (i ≤ n) × (some-of (isOf number) (drop i (held ring cells)) ≡ some-of (isOf number) (held ring cells))

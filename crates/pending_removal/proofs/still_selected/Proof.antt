@@ -2,11 +2,11 @@
 use mathlib.Core.Path.{_∙_, sym}
 use denote.Ref.{now}
 use Rattle.model.specs.Rings.{head}
 use Rattle.pending_queue.specs.Queue.{underWayOf, pendingIn}
 use Rattle.pending_queue.specs.Runs.{ended-none, ended-one, ended-other}
 use borrow.Author.Needs.{needs}
-use Rattle.pending_queue.proofs.still_selected.Statement.{statement}
-use Rattle.pending_queue.proofs.still_selected.Tie as tie
+use Rattle.pending_removal.proofs.still_selected.Statement.{statement}
+use Rattle.pending_removal.proofs.still_selected.Tie as tie
 
 peek-requires : tie.Need-peek-requires
 peek-requires c κs = search needs

@@ -1,9 +1,9 @@
 -- The two cases of `laterOf`.
 use mathlib.Core.Path.{sym, ap}
 use Rattle.pending_queue.specs.Runs.{laterOf}
 use borrow.Author.Needs.{needs}
-use Rattle.pending_queue.proofs.later.Statement.{statement}
-use Rattle.pending_queue.proofs.later.Tie as tie
+use Rattle.pending_removal.proofs.later.Statement.{statement}
+use Rattle.pending_removal.proofs.later.Tie as tie
 
 enum-known-second : tie.Need-enum-known-second
 enum-known-second c = search needs

@@ -10,10 +10,10 @@ use Rattle.rows.specs.Turns.{nil-of, read-turn}
 use Rattle.cells.specs.Slots.{limit}
 use Rattle.chunk_slot.specs.Chunks.{blankChunk}
 use Rattle.ring.specs.Held.{held, held-limit}
 use Rattle.pending_queue.specs.Runs.{drop-run, Taking, taking-start, taking-turn, taking-stop, taking-none}
 use borrow.Author.Needs.{needs}
-use Rattle.pending_queue.proofs.remove_run.Statement.{statement}
-use Rattle.pending_queue.proofs.remove_run.Tie as tie
+use Rattle.pending_removal.proofs.remove_run.Statement.{statement}
+use Rattle.pending_removal.proofs.remove_run.Tie as tie
 
 abbrev Inv-loop : tie.InvT-loop
 Inv-loop cells number rest₀ n₀ bytes₀ last₀ rest n bytes last = (n ≡ length (held rest cells)) × (n₀ ≤ limit) × (bytes + n * 4294967295 ≤ n₀ * 4294967295) × Taking (isOf number) (held rest₀ cells) (held rest cells) bytes last

@@ -6,10 +6,10 @@ use lib.Dec.{eqb}
 use Rattle.model.specs.declared.Chunk.{Chunk}
 use Rattle.model.specs.Flight.{hasStream}
 use Rattle.ring.specs.Held.{held}
 use Rattle.pending_queue.specs.Queue.{some-in}
 use borrow.Author.Needs.{needs}
-use Rattle.pending_queue.proofs.contains_stream.Statement.{statement}
-use Rattle.pending_queue.proofs.contains_stream.Tie as tie
+use Rattle.pending_asks.proofs.contains_stream.Statement.{statement}
+use Rattle.pending_asks.proofs.contains_stream.Tie as tie
 
 has-stream-requires : tie.Need-has-stream-requires
 has-stream-requires c κs = search needs

@@ -3,8 +3,8 @@ use native.Mathlib.Omega.{arith}
 use denote.Ref.{now}
 use Rattle.ring.specs.Held.{held-limit}
 use borrow.Author.Needs.{needs}
-use Rattle.pending_queue.proofs.len.Statement.{statement}
-use Rattle.pending_queue.proofs.len.Tie as tie
+use Rattle.pending_asks.proofs.len.Statement.{statement}
+use Rattle.pending_asks.proofs.len.Tie as tie
 
 count-requires : tie.Need-count-requires
 count-requires c κs = search needs

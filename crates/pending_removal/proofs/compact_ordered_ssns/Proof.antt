@@ -7,10 +7,10 @@ use lib.ListN.{length}
 use Rattle.model.specs.Rings.{lowered, bytes}
 use Rattle.rows.specs.Turns.{Mapped, map-turn, map-done}
 use Rattle.ring.specs.Held.{held}
 use Rattle.pending_queue.specs.Queue.{lowered-bytes}
 use borrow.Author.Needs.{needs}
-use Rattle.pending_queue.proofs.compact_ordered_ssns.Statement.{statement}
-use Rattle.pending_queue.proofs.compact_ordered_ssns.Tie as tie
+use Rattle.pending_removal.proofs.compact_ordered_ssns.Statement.{statement}
+use Rattle.pending_removal.proofs.compact_ordered_ssns.Tie as tie
 
 abbrev Inv-loop : tie.InvT-loop
 Inv-loop ordered₀ stream ring n i₀ ordered i = (i ≤ n) × (length ordered ≡ length ordered₀) × Mapped (lowered stream) (held ring ordered₀) i (held ring ordered)
