@@ -46,7 +46,7 @@ pub struct GivenUp {
 pub fn give_up(q: OutboundQueue, cells: &mut [u64], number: u64) -> GivenUp
     ensures { λ r. ⌜ ((room : Room) (ts : List Stream) → room .flight ≡ ringRoom (now (cells .entry)) → (senderOf ts (r .queue) (now (cells .exit)) ≡ leanlyAbandoned room number (senderOf ts q (now (cells .entry)))) × (r .bytes ≡ leanlyHeld number (senderOf ts q (now (cells .entry))))) × (Counted q (now (cells .entry)) → Counted (r .queue) (now (cells .exit))) ⌝ }
 {
-    let freed = outbound_steps::give_up_entries(q, cells, number);
+    let freed = outbound_flight_steps::give_up_entries(q, cells, number);
     let removed = outbound_steps::remove_pending(freed.queue, cells, number);
     let bytes = freed.bytes + removed.bytes;
     let rest = removed.queue;
@@ -57,7 +57,7 @@ pub fn give_up(q: OutboundQueue, cells: &mut [u64], number: u64) -> GivenUp
             bytes: bytes,
         };
     };
-    let after = outbound_steps::file(rest, cells, terminate(chunk));
+    let after = outbound_flight_steps::file(rest, cells, terminate(chunk));
     GivenUp {
         queue: after,
         bytes: bytes,

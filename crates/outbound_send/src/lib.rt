@@ -70,7 +70,7 @@ fn is_blocked(q: OutboundQueue, cells: &[u64]) -> bool
     let Found::One(_) = front else {
         return false;
     };
-    outbound_steps::is_full(q, cells)
+    outbound_flight_steps::is_full(q, cells)
 }
 
 // The head goes to the flight, with lifetimes started. What is refused is refused before the first store.
@@ -101,7 +101,7 @@ pub fn send_next(q: OutboundQueue, cells: &mut [u64], clock: u64) -> Sending
         };
     };
     let sent = stamp(chunk, clock);
-    let after = outbound_steps::file(rest, cells, sent);
+    let after = outbound_flight_steps::file(rest, cells, sent);
     Sending {
         queue: after,
         answer: Sent::Yielded(tsn, sent),

@@ -7,8 +7,8 @@ use Rattle.rows.specs.Parts.{patch}
 use Rattle.payload_queue.specs.Model.{withFlight}
 use Rattle.outbound_queue.specs.Outbound.{third, remade, senderOf, flight-back, sender-by, counted-by}
 use borrow.Author.Needs.{needs}
-use Rattle.outbound_steps.proofs.give_up_entries.Statement.{statement}
-use Rattle.outbound_steps.proofs.give_up_entries.Tie as tie
+use Rattle.outbound_flight_steps.proofs.give_up_entries.Statement.{statement}
+use Rattle.outbound_flight_steps.proofs.give_up_entries.Tie as tie
 
 mul-k : tie.Need-mul-k
 mul-k c = search needs

@@ -8,8 +8,8 @@ use Rattle.payload_queue.specs.Queue.{filed}
 use Rattle.payload_queue.specs.Model.{withFlight}
 use Rattle.outbound_queue.specs.Outbound.{third, ringsIn, flying, remade, senderOf, flight-room, flight-back, sender-by, counted-by}
 use borrow.Author.Needs.{needs}
-use Rattle.outbound_steps.proofs.file.Statement.{statement}
-use Rattle.outbound_steps.proofs.file.Tie as tie
+use Rattle.outbound_flight_steps.proofs.file.Statement.{statement}
+use Rattle.outbound_flight_steps.proofs.file.Tie as tie
 
 mul-k : tie.Need-mul-k
 mul-k c = search needs

@@ -8,8 +8,8 @@ use lib.ListN.{length}
 use Rattle.ring.specs.Held.{held-limit}
 use Rattle.outbound_queue.specs.Outbound.{ringsIn, flying, flight-room}
 use borrow.Author.Needs.{needs}
-use Rattle.outbound_steps.proofs.is_full.Statement.{statement}
-use Rattle.outbound_steps.proofs.is_full.Tie as tie
+use Rattle.outbound_flight_steps.proofs.is_full.Statement.{statement}
+use Rattle.outbound_flight_steps.proofs.is_full.Tie as tie
 
 mul-k : tie.Need-mul-k
 mul-k c = search needs
