@@ -104,7 +104,7 @@ fn send_many(h: Head, cells: &mut [u64], times: u32) -> Head {
 fn pass(h: Head, cells: &mut [u64]) -> Head {
     let writing = sender_write::write(h, cells, 1, 53, 0, 65_515);
     let sent = send_many(writing.head, cells, 1);
-    let popped = sender_queue::pop(sent, cells, sent.queue.inflight.oldest);
+    let popped = sender_inflight::pop(sent, cells, sent.queue.inflight.oldest);
     popped.head
 }
 
@@ -208,7 +208,7 @@ fn abandon(h: Head, cells: &mut [u64], tsn: u32) -> Head {
 
 fn expired(label: &[u8], h: Head, cells: &[u64], clock: u64) {
     let mut out = [9u32; 3];
-    let listed = sender_queue::expired_inflight(h, cells, clock, &mut out);
+    let listed = sender_inflight::expired_inflight(h, cells, clock, &mut out);
     show::text(label);
     match listed {
         Listed::Count(n) => show::number(b": ", n as u64),

@@ -27,7 +27,7 @@ pub fn acknowledge(s: Sender, tsn: u32) -> Acked
     ensures { λ r. ⌜ (record { after = stateOf (r .sender); says = r .bytes } ≡ acknowledge tsn (stateOf s)) × (Sums s → Sums (r .sender)) ⌝ }
 {
     let mut cells = s.cells;
-    let acked = sender_queue::acknowledge(s.head, &mut cells, tsn);
+    let acked = sender_inflight::acknowledge(s.head, &mut cells, tsn);
     let head = acked.head;
     Acked {
         sender: Sender {
@@ -43,7 +43,7 @@ pub fn pop(s: Sender, tsn: u32) -> Popped
     ensures { λ r. ⌜ (record { after = stateOf (r .sender); says = r .front } ≡ pop tsn (stateOf s)) × (Sums s → Sums (r .sender)) ⌝ }
 {
     let cells = s.cells;
-    let rest = sender_queue::pop(s.head, &cells, tsn);
+    let rest = sender_inflight::pop(s.head, &cells, tsn);
     let head = rest.head;
     let front = rest.front;
     Popped {
@@ -61,7 +61,7 @@ pub fn mark_all(s: Sender) -> Sender
 {
     let mut cells = s.cells;
     let head = s.head;
-    sender_queue::mark_all(head, &mut cells);
+    sender_inflight::mark_all(head, &mut cells);
     Sender {
         head: head,
         cells: cells,
@@ -73,5 +73,5 @@ pub fn expired_inflight(s: Sender, clock: u64, out: &mut [u32]) -> Listed
     ensures { λ r. ⌜ Does room01 (stateOf s) (record { answer = r; list = now (out .exit) }) (listedIn (now (out .entry)) (leanList clock (length (now (out .entry))) (stateOf s))) (listedIn (now (out .entry)) (expiredInflight clock (length (now (out .entry))) (stateOf s))) ⌝ }
 {
     let cells = s.cells;
-    sender_queue::expired_inflight(s.head, &cells, clock, out)
+    sender_inflight::expired_inflight(s.head, &cells, clock, out)
 }

@@ -3,8 +3,8 @@ use denote.Ref.{now}
 use Rattle.model.specs.Flight.{acknowledge}
 use Rattle.sender_head.specs.Lent.{open-streams, lent-sender, lent-counted, back-sender, back-counted, said-of}
 use borrow.Author.Needs.{needs}
-use Rattle.sender_queue.proofs.acknowledge.Statement.{statement}
-use Rattle.sender_queue.proofs.acknowledge.Tie as tie
+use Rattle.sender_inflight.proofs.acknowledge.Statement.{statement}
+use Rattle.sender_inflight.proofs.acknowledge.Tie as tie
 
 table-words-requires : tie.Need-table-words-requires
 table-words-requires c κs = search needs

@@ -4,8 +4,8 @@ use denote.Ref.{now}
 use Rattle.model.specs.Flight.{markAll}
 use Rattle.sender_head.specs.Lent.{open-streams, lent-sender, lent-counted, back-sender, back-counted}
 use borrow.Author.Needs.{needs}
-use Rattle.sender_queue.proofs.mark_all.Statement.{statement}
-use Rattle.sender_queue.proofs.mark_all.Tie as tie
+use Rattle.sender_inflight.proofs.mark_all.Statement.{statement}
+use Rattle.sender_inflight.proofs.mark_all.Tie as tie
 
 table-words-requires : tie.Need-table-words-requires
 table-words-requires c κs = search needs

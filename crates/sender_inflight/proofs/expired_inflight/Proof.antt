@@ -8,8 +8,8 @@ use Rattle.outbound_overdue.specs.Lean.{leanList, listedIn}
 use Rattle.sender_head.specs.Whole.{roomIn}
 use Rattle.sender_head.specs.Lent.{open-streams, lent-sender, does-of}
 use borrow.Author.Needs.{needs}
-use Rattle.sender_queue.proofs.expired_inflight.Statement.{statement}
-use Rattle.sender_queue.proofs.expired_inflight.Tie as tie
+use Rattle.sender_inflight.proofs.expired_inflight.Statement.{statement}
+use Rattle.sender_inflight.proofs.expired_inflight.Tie as tie
 
 table-words-requires : tie.Need-table-words-requires
 table-words-requires c κs = search needs

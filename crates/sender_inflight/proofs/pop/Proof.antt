@@ -4,8 +4,8 @@ use denote.Ref.{now}
 use Rattle.model.specs.Flight.{pop}
 use Rattle.sender_head.specs.Lent.{open-streams, lent-sender, lent-counted, read-sender, read-counted, said-of}
 use borrow.Author.Needs.{needs}
-use Rattle.sender_queue.proofs.pop.Statement.{statement}
-use Rattle.sender_queue.proofs.pop.Tie as tie
+use Rattle.sender_inflight.proofs.pop.Statement.{statement}
+use Rattle.sender_inflight.proofs.pop.Tie as tie
 
 table-words-requires : tie.Need-table-words-requires
 table-words-requires c κs = search needs
