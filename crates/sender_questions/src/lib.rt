@@ -1,6 +1,5 @@
 // What is asked of a sender by value: nothing changes. Each answer is the model's (`answer` of model/specs/Calls), of every sender; the two
 // sums of bytes are kept, and are the sums where they were (`Sums`).
-use model::Amount;
 use model::Earliest;
 use model::Found;
 use sender::Sender;
@@ -9,12 +8,9 @@ ghost use mathlib.Core.List.{_++_};
 ghost use Prim.Native.Nat.{_+_};
 ghost use lib.ListN.{length};
 ghost use Rattle.model.specs.State.{inFlight, nextTsn};
-ghost use Rattle.model.specs.Streams.{find, amount, counts};
 ghost use Rattle.model.specs.Rings.{head, bytes};
 ghost use Rattle.model.specs.Flight.{found, isAbandoned, hasStream, earliestOutstanding};
 ghost use Rattle.sender.specs.Value.{stateOf, Sums};
-
-// ---- what is pending and in flight
 
 // The entry of a TSN.
 pub fn get(s: Sender, tsn: u32) -> Found
@@ -103,35 +99,4 @@ pub fn contains_stream(s: Sender, identifier: u16) -> bool
 {
     let cells = s.cells;
     sender_asks::contains_stream(s.head, &cells, identifier)
-}
-
-// ---- a stream. Refusal: 3
-
-pub fn buffered_amount(s: Sender, identifier: u16) -> Amount
-    ensures { λ r. ⌜ r ≡ amount (find identifier (stateOf s .streams)) (λ t. t .buffered) ⌝ }
-{
-    let cells = s.cells;
-    sender_stream_asks::buffered_amount(s.head, &cells, identifier)
-}
-
-pub fn low_threshold(s: Sender, identifier: u16) -> Amount
-    ensures { λ r. ⌜ r ≡ amount (find identifier (stateOf s .streams)) (λ t. t .low) ⌝ }
-{
-    let cells = s.cells;
-    sender_stream_asks::low_threshold(s.head, &cells, identifier)
-}
-
-pub fn high_threshold(s: Sender, identifier: u16) -> Amount
-    ensures { λ r. ⌜ r ≡ amount (find identifier (stateOf s .streams)) (λ t. t .high) ⌝ }
-{
-    let cells = s.cells;
-    sender_stream_asks::high_threshold(s.head, &cells, identifier)
-}
-
-// Messages and bytes sent.
-pub fn statistics(s: Sender, identifier: u16) -> model::Counted
-    ensures { λ r. ⌜ r ≡ counts (find identifier (stateOf s .streams)) ⌝ }
-{
-    let cells = s.cells;
-    sender_stream_asks::statistics(s.head, &cells, identifier)
 }

@@ -1,6 +1,5 @@
-// The sender's calls on what is pending and in flight: each lends the queue's half of the cells to the crate below, and the table of
-// streams stays. Those that do less than 01 says in states that no call makes promise by `Does` what they do there, and 01's call in every
-// `Good` state; the others equal 01's call of every head and every cells.
+// The sender's calls on lifetimes, sending, abandonment and the expiry of a rest: each lends the queue's half of the cells to the crate below,
+// and the table of streams stays. Each promises by `Does` what it does in states that no call makes, and 01's call in every `Good` state.
 use model::Abandoned;
 use model::Done;
 use model::Sent;
