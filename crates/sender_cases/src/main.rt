@@ -13,9 +13,12 @@ fn state(h: Head, cells: &[u64]) {
     show::number(b"  pending ", sender_asks::pending_length(h, cells) as u64);
     show::number(
         b", in flight ",
-        sender_asks::inflight_length(h, cells) as u64,
+        sender_flight_asks::inflight_length(h, cells) as u64,
     );
-    show::number(b", next TSN ", sender_asks::next_tsn(h, cells) as u64);
+    show::number(
+        b", next TSN ",
+        sender_flight_asks::next_tsn(h, cells) as u64,
+    );
     show::number(b", next message ", sender_asks::next_message(h));
     let amount = sender_stream_asks::buffered_amount(h, cells, 1);
     match amount {

@@ -17,7 +17,7 @@ pub fn get(s: Sender, tsn: u32) -> Found
     ensures { λ r. ⌜ r ≡ found (inFlight tsn (stateOf s .flight)) ⌝ }
 {
     let cells = s.cells;
-    sender_asks::get(s.head, &cells, tsn)
+    sender_flight_asks::get(s.head, &cells, tsn)
 }
 
 // No for a TSN that is not in flight.
@@ -25,7 +25,7 @@ pub fn is_abandoned(s: Sender, tsn: u32) -> bool
     ensures { λ r. ⌜ r ≡ isAbandoned (inFlight tsn (stateOf s .flight)) ⌝ }
 {
     let cells = s.cells;
-    sender_asks::is_abandoned(s.head, &cells, tsn)
+    sender_flight_asks::is_abandoned(s.head, &cells, tsn)
 }
 
 // The chunk that is sent next.
@@ -48,7 +48,7 @@ pub fn next_tsn(s: Sender) -> u32
     ensures { λ r. ⌜ r ≡ nextTsn (stateOf s) ⌝ }
 {
     let cells = s.cells;
-    sender_asks::next_tsn(s.head, &cells)
+    sender_flight_asks::next_tsn(s.head, &cells)
 }
 
 pub fn pending_length(s: Sender) -> usize
@@ -68,13 +68,13 @@ pub fn inflight_length(s: Sender) -> usize
     ensures { λ r. ⌜ r ≡ length (stateOf s .flight .entries) ⌝ }
 {
     let cells = s.cells;
-    sender_asks::inflight_length(s.head, &cells)
+    sender_flight_asks::inflight_length(s.head, &cells)
 }
 
 pub fn inflight_bytes(s: Sender) -> u64
     ensures { λ r. ⌜ (Sums s → r ≡ bytes (stateOf s .flight .entries)) ⌝ }
 {
-    sender_asks::inflight_bytes(s.head)
+    sender_flight_asks::inflight_bytes(s.head)
 }
 
 // The oldest TSN that is neither acknowledged nor abandoned.
@@ -82,7 +82,7 @@ pub fn earliest_outstanding(s: Sender) -> Earliest
     ensures { λ r. ⌜ r ≡ earliestOutstanding (stateOf s) ⌝ }
 {
     let cells = s.cells;
-    sender_asks::earliest_outstanding(s.head, &cells)
+    sender_flight_asks::earliest_outstanding(s.head, &cells)
 }
 
 // Whether a stream has chunks pending.

@@ -4,8 +4,8 @@ use denote.Ref.{now}
 use Rattle.model.specs.State.{Sender, nextTsn}
 use Rattle.sender_head.specs.Lent.{open-streams, lent-sender}
 use borrow.Author.Needs.{needs}
-use Rattle.sender_asks.proofs.next_tsn.Statement.{statement}
-use Rattle.sender_asks.proofs.next_tsn.Tie as tie
+use Rattle.sender_flight_asks.proofs.next_tsn.Statement.{statement}
+use Rattle.sender_flight_asks.proofs.next_tsn.Tie as tie
 
 table-words-requires : tie.Need-table-words-requires
 table-words-requires c κs = search needs

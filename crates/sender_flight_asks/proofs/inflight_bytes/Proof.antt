@@ -1,8 +1,8 @@
 -- The queue's answer.
 use Rattle.sender_head.specs.Whole.{halves}
 use borrow.Author.Needs.{needs}
-use Rattle.sender_asks.proofs.inflight_bytes.Statement.{statement}
-use Rattle.sender_asks.proofs.inflight_bytes.Tie as tie
+use Rattle.sender_flight_asks.proofs.inflight_bytes.Statement.{statement}
+use Rattle.sender_flight_asks.proofs.inflight_bytes.Tie as tie
 
 inflight-bytes-requires : tie.Need-inflight-bytes-requires
 inflight-bytes-requires c κs = search needs

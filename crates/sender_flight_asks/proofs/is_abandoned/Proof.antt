@@ -5,8 +5,8 @@ use Rattle.model.specs.State.{Sender, inFlight}
 use Rattle.model.specs.Flight.{isAbandoned}
 use Rattle.sender_head.specs.Lent.{lent-sender}
 use borrow.Author.Needs.{needs}
-use Rattle.sender_asks.proofs.is_abandoned.Statement.{statement}
-use Rattle.sender_asks.proofs.is_abandoned.Tie as tie
+use Rattle.sender_flight_asks.proofs.is_abandoned.Statement.{statement}
+use Rattle.sender_flight_asks.proofs.is_abandoned.Tie as tie
 
 table-words-requires : tie.Need-table-words-requires
 table-words-requires c κs = search needs

@@ -5,8 +5,8 @@ use Rattle.model.specs.State.{Sender}
 use Rattle.model.specs.Flight.{earliestOutstanding}
 use Rattle.sender_head.specs.Lent.{open-streams, lent-sender}
 use borrow.Author.Needs.{needs}
-use Rattle.sender_asks.proofs.earliest_outstanding.Statement.{statement}
-use Rattle.sender_asks.proofs.earliest_outstanding.Tie as tie
+use Rattle.sender_flight_asks.proofs.earliest_outstanding.Statement.{statement}
+use Rattle.sender_flight_asks.proofs.earliest_outstanding.Tie as tie
 
 table-words-requires : tie.Need-table-words-requires
 table-words-requires c κs = search needs
