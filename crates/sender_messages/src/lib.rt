@@ -115,9 +115,9 @@ pub fn expire_pending_tail(s: Sender, clock: u64) -> TailExpiring
     ensures { λ r. ⌜ Does room01 (stateOf s) (record { after = stateOf (r .sender); says = r .answer }) (leanExpireTail room01 clock (stateOf s)) (expirePendingTail clock (stateOf s)) × (Sums s → Sums (r .sender)) ⌝ }
 {
     let mut cells = s.cells;
-    let expiring = sender_queue::expire_pending_tail(s.head, &mut cells, clock);
-    let head = expiring.head;
-    let answer = expiring.answer;
+    let tail = sender_queue::expire_pending_tail(s.head, &mut cells, clock);
+    let head = tail.head;
+    let answer = tail.answer;
     TailExpiring {
         sender: Sender {
             head: head,
