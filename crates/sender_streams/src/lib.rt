@@ -112,7 +112,7 @@ pub fn release(h: Head, cells: &mut [u64], identifier: u16, released: i64) -> Re
     let Place::At(i, old) = place else {
         return Released::Refused(NOT_OPEN);
     };
-    let freed = stream::on_buffer_released(old, released);
+    let freed = stream_amounts::on_buffer_released(old, released);
     let rest = freed.stream;
     sender_table::replace(h, cells, i, rest);
     Released::Told(freed.low)
@@ -126,6 +126,6 @@ pub fn lower_next_ssn(h: Head, cells: &mut [u64], identifier: u16)
     let Place::At(i, old) = place else {
         return;
     };
-    let lowered = stream::lower_ssn(old);
+    let lowered = stream_amounts::lower_ssn(old);
     sender_table::replace(h, cells, i, lowered)
 }

@@ -83,7 +83,7 @@ pub fn write(
         };
     }
     let bytes = length as u32;
-    if stream::would_overflow(stream, bytes) {
+    if stream_amounts::would_overflow(stream, bytes) {
         return Writing {
             head: h,
             answer: Written::Refused(limits::BUFFER_FULL),
@@ -98,7 +98,7 @@ pub fn write(
             answer: Written::Refused(number),
         };
     }
-    let written = stream::written(stream, protocol, bytes);
+    let written = stream_amounts::written(stream, protocol, bytes);
     let after = written.stream;
     sender_table::replace(head, cells, place, after);
     Writing {

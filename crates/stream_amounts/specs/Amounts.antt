@@ -15,9 +15,9 @@ use Rattle.model.specs.Lists.{if_then_else_}
 use Rattle.model.specs.Streams.{accounted, reduced}
 use Rattle.model.specs.Messages.{isUnordered, ssnAfter, countedBy, written}
 use Rattle.rows.specs.View.{lt-or-ge}
 use Rattle.stream.specs.Cases.{and-no}
-use Rattle.stream.specs.declared.Accepted.{Accepted}
-use Rattle.stream.specs.declared.Freed.{Freed}
+use Rattle.stream_amounts.specs.declared.Accepted.{Accepted}
+use Rattle.stream_amounts.specs.declared.Freed.{Freed}
 
 -- the amount would pass its limit
 abbrev pub overflows : (length : ℕ) → Stream → Bool

@@ -1,9 +1,9 @@
 -- The second test is made where the first leaves it open.
 use lib.Dec.{eqb}
 use borrow.Author.Tests.{eq-eqb, ne-eqb}
 use Rattle.stream.specs.Cases.{or-yes, or-on}
-use Rattle.stream.proofs.is_one_of.Statement.{statement}
-use Rattle.stream.proofs.is_one_of.Tie as tie
+use Rattle.stream_amounts.proofs.is_one_of.Statement.{statement}
+use Rattle.stream_amounts.proofs.is_one_of.Tie as tie
 
 returns : tie.Need-returns
 returns c = let a = c .before .args in or-yes (eqb (a .protocol) (a .second)) (eq-eqb (a .protocol) (a .first) (c .if1 .taken))

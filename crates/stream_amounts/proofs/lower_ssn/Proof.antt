@@ -3,8 +3,8 @@ use mathlib.Core.Path.{ap, _∙_}
 use Prim.Native.Nat.{ℕ}
 use Rattle.model.specs.Streams.{accounted}
 use borrow.Author.Needs.{needs}
-use Rattle.stream.proofs.lower_ssn.Statement.{statement}
-use Rattle.stream.proofs.lower_ssn.Tie as tie
+use Rattle.stream_amounts.proofs.lower_ssn.Statement.{statement}
+use Rattle.stream_amounts.proofs.lower_ssn.Tie as tie
 
 ssn-before-requires : tie.Need-ssn-before-requires
 ssn-before-requires c κs = search needs

@@ -4,10 +4,10 @@ use lib.IntN.{ℤ}
 use mir.Syntax.{w64}
 use mir.Val.{toZ, ofZ}
 use mir.Facts.{fits-natAbs, fits-ofZ, sfits-toZ, toZ-ofZ}
-use Rattle.stream.specs.Amounts.{freeing, free-none, free-some, above-zero}
+use Rattle.stream_amounts.specs.Amounts.{freeing, free-none, free-some, above-zero}
 use borrow.Author.Needs.{needs}
-use Rattle.stream.proofs.on_buffer_released.Statement.{statement}
-use Rattle.stream.proofs.on_buffer_released.Tie as tie
+use Rattle.stream_amounts.proofs.on_buffer_released.Statement.{statement}
+use Rattle.stream_amounts.proofs.on_buffer_released.Tie as tie
 
 returns : tie.Need-returns
 returns c =

@@ -1,10 +1,10 @@
 -- What is left below the last number decides.
 use Prim.Native.Nat.{_+_}
 use native.Mathlib.Omega.{arith}
-use Rattle.stream.specs.Cases.{saturated-in, saturated-out}
+use Rattle.stream_amounts.specs.Cases.{saturated-in, saturated-out}
 use borrow.Author.Needs.{needs}
-use Rattle.stream.proofs.saturating.Statement.{statement}
-use Rattle.stream.proofs.saturating.Tie as tie
+use Rattle.stream_amounts.proofs.saturating.Statement.{statement}
+use Rattle.stream_amounts.proofs.saturating.Tie as tie
 
 sub-left : tie.Need-sub-left
 sub-left c = search needs

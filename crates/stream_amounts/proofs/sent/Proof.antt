@@ -1,9 +1,9 @@
 -- The payload type says which of the two counters move.
 use native.Mathlib.Omega.{arith}
-use Rattle.stream.specs.Cases.{counted-bytes, counted-empty, counted-other}
+use Rattle.stream_amounts.specs.Cases.{counted-bytes, counted-empty, counted-other}
 use borrow.Author.Needs.{needs}
-use Rattle.stream.proofs.sent.Statement.{statement}
-use Rattle.stream.proofs.sent.Tie as tie
+use Rattle.stream_amounts.proofs.sent.Statement.{statement}
+use Rattle.stream_amounts.proofs.sent.Tie as tie
 
 returns : tie.Need-returns
 returns c = search needs

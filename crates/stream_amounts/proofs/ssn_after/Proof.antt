@@ -1,10 +1,10 @@
 -- An ordered message takes one; behind the last comes 0.
 use Prim.Native.Nat.{_+_}
 use native.Mathlib.Omega.{arith}
-use Rattle.stream.specs.Cases.{ssn-ordered}
+use Rattle.stream_amounts.specs.Cases.{ssn-ordered}
 use borrow.Author.Needs.{needs}
-use Rattle.stream.proofs.ssn_after.Statement.{statement}
-use Rattle.stream.proofs.ssn_after.Tie as tie
+use Rattle.stream_amounts.proofs.ssn_after.Statement.{statement}
+use Rattle.stream_amounts.proofs.ssn_after.Tie as tie
 
 returns : tie.Need-returns
 returns c = search needs

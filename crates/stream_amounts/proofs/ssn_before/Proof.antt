@@ -1,8 +1,8 @@
 -- Before 0 comes the last.
 use native.Mathlib.Omega.{arith}
 use borrow.Author.Needs.{needs}
-use Rattle.stream.proofs.ssn_before.Statement.{statement}
-use Rattle.stream.proofs.ssn_before.Tie as tie
+use Rattle.stream_amounts.proofs.ssn_before.Statement.{statement}
+use Rattle.stream_amounts.proofs.ssn_before.Tie as tie
 
 returns : tie.Need-returns
 returns c = omega arith

@@ -1,8 +1,8 @@
 -- The test is the definition.
 use mathlib.Core.Path.{refl}
 use borrow.Author.Needs.{needs}
-use Rattle.stream.proofs.would_overflow.Statement.{statement}
-use Rattle.stream.proofs.would_overflow.Tie as tie
+use Rattle.stream_amounts.proofs.would_overflow.Statement.{statement}
+use Rattle.stream_amounts.proofs.would_overflow.Tie as tie
 
 cast-result : tie.Need-cast-result
 cast-result c = search needs

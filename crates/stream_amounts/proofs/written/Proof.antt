@@ -4,10 +4,10 @@ use Prim.Native.Nat.{_+_}
 use native.Mathlib.Omega.{arith}
 use borrow.Author.Tests.{ltb-false}
 use Rattle.limits.specs.Limits.{bufferedMax}
-use Rattle.stream.specs.Amounts.{accept-over, accept-fits}
+use Rattle.stream_amounts.specs.Amounts.{accept-over, accept-fits}
 use borrow.Author.Needs.{needs}
-use Rattle.stream.proofs.written.Statement.{statement}
-use Rattle.stream.proofs.written.Tie as tie
+use Rattle.stream_amounts.proofs.written.Statement.{statement}
+use Rattle.stream_amounts.proofs.written.Tie as tie
 
 would-overflow-requires : tie.Need-would-overflow-requires
 would-overflow-requires c κs = search needs
