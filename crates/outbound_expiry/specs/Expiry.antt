@@ -4,7 +4,6 @@ use mathlib.Core.Bool.{Bool, true, false, not, _&&_}
 use mathlib.Core.Option.{Option, none, some}
 use mathlib.Core.List.{List, map}
 use Prim.Native.Nat.{ℕ, _≤_, _<_}
-use native.Mathlib.Omega.{arith}
 use lib.Dec.{leb, ltb}
 use borrow.Author.Tests.{lt-ltb, le-ltb}
 use Rattle.limits.specs.Limits.{Room, clockMax}
@@ -23,6 +22,7 @@ use Rattle.model.specs.Rings.{head, lowered, dropSsn, compacted, bytes, overdue
 use Rattle.model.specs.Flight.{found}
 use Rattle.pending_queue.specs.Runs.{runs, withoutRuns, runs-without, runs-pending}
 use Rattle.outbound_queue.specs.Outbound.{Good}
+use Rattle.outbound_asks.specs.Asked.{found-some, found-none}
 use Rattle.outbound_expiry.specs.Lean.{dropped, leanlyExpiring, leanExpire}
 
 -- ---- the tests, by what code finds of their parts
@@ -35,16 +35,6 @@ expires-is now x e f = ap₂ (λ (y z : Bool). y && (z && overdue now x)) (sym e
 
 pub tail-expires-is : (now : ℕ) (x : Chunk) {a : Bool} → x .beginning ≡ a → (not a && overdue now x) ≡ tailExpires now x
 tail-expires-is now x e = ap (λ (y : Bool). not y && overdue now x) (sym e)
-
--- ---- what code finds is there
-
-pub found-some : (o : Option Chunk) (c : Chunk) → found o ≡ Found.One c → o ≡ some c
-found-some none c e = let z : _≡_ {A = ℕ} 0 1 = cc in absurd (omega arith)
-found-some (some d) c e = let q : d ≡ c = cc in ap some q
-
-pub found-none : (o : Option Chunk) → found o ≡ Found.Nothing → o ≡ none
-found-none none e = refl
-found-none (some d) e = let z : _≡_ {A = ℕ} 0 1 = cc in absurd (omega arith)
 
 -- ---- in a Good state the head's run is all of its message
 

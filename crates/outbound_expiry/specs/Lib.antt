@@ -1,6 +1,4 @@
--- Lean: the four calls as the code makes them of any state. Expiry: an unsent message goes. Abandons: a message is cut off. Listings: what
--- has expired in flight.
+-- Lean: the two calls as the code makes them of any state. Expiry: an unsent message goes. Tails: the rest of a message goes.
 pub mod Lean
 pub mod Expiry
-pub mod Abandons
-pub mod Listings
+pub mod Tails

@@ -66,11 +66,11 @@ fn stamp(chunk: Chunk, clock: u64) -> Chunk
 fn is_blocked(q: OutboundQueue, cells: &[u64]) -> bool
     ensures { λ r. ⌜ r ≡ blocked (head (waiting q (ringsIn (now (cells .entry))))) (ringRoom (now (cells .entry))) (flying q (ringsIn (now (cells .entry))) .entries) ⌝ }
 {
-    let front = outbound_queue::peek_pending(q, cells);
+    let front = outbound_asks::peek_pending(q, cells);
     let Found::One(_) = front else {
         return false;
     };
-    outbound_steps::is_full(q, cells)
+    outbound_flight_steps::is_full(q, cells)
 }
 
 // The head goes to the flight, with lifetimes started. What is refused is refused before the first store.
@@ -89,7 +89,7 @@ pub fn send_next(q: OutboundQueue, cells: &mut [u64], clock: u64) -> Sending
             answer: Sent::Refused(limits::FLIGHT_FULL),
         };
     }
-    let tsn = outbound_queue::next_tsn(q, cells);
+    let tsn = outbound_asks::next_tsn(q, cells);
     let started = outbound_steps::start_rings(q, cells, clock);
     let taken = outbound_steps::take_head(started, cells);
     let rest = taken.queue;
@@ -101,7 +101,7 @@ pub fn send_next(q: OutboundQueue, cells: &mut [u64], clock: u64) -> Sending
         };
     };
     let sent = stamp(chunk, clock);
-    let after = outbound_steps::file(rest, cells, sent);
+    let after = outbound_flight_steps::file(rest, cells, sent);
     Sending {
         queue: after,
         answer: Sent::Yielded(tsn, sent),

@@ -1,38 +1,29 @@
-// The steps that writing, sending, expiry and abandonment take. Each lends a ring or the flight to the crate below and leaves the other
-// cells as they are; its contract says what has become of the model's sender, whatever the streams are.
-use model::Chunk;
+// The steps that writing, sending, expiry and abandonment take in what is pending. Each lends a ring or both to the crate below and leaves the
+// other cells as they are; its contract says what has become of the model's sender, whatever the streams are. Those in the flight stand in
+// `outbound_flight_steps`.
 use model::Found;
 use model::Message;
 use outbound_queue::OutboundQueue;
 ghost use mathlib.Core.Path.{_≡_};
 ghost use mathlib.Core.List.{List, map};
-ghost use Prim.Native.Nat.{suc, min};
+ghost use Prim.Native.Nat.{min};
 ghost use lib.ListN.{length};
-ghost use lib.Dec.{leb};
 ghost use Rattle.limits.specs.Limits.{clockMax};
 ghost use Rattle.model.specs.declared.Lane.the-variants.{Ordered};
 ghost use Rattle.model.specs.declared.Stream.{Stream};
-ghost use Rattle.model.specs.Lists.{keep, last};
-ghost use Rattle.model.specs.State.{isOf, withPending, withRing};
-ghost use Rattle.model.specs.Rings.{head, lowered, bytes, givenUp};
+ghost use Rattle.model.specs.Lists.{last};
+ghost use Rattle.model.specs.State.{withPending, withRing};
+ghost use Rattle.model.specs.Rings.{head, lowered, bytes};
 ghost use Rattle.model.specs.Flight.{found};
-ghost use Rattle.payload_queue.specs.Queue.{changed, filed};
-ghost use Rattle.payload_queue.specs.Model.{withFlight};
 ghost use Rattle.cutting.specs.Fragments.{fitsIn, withFragments};
 ghost use Rattle.pending_queue.specs.Fronts.{popped};
 ghost use Rattle.pending_queue.specs.Runs.{runs, withoutRuns};
-ghost use Rattle.outbound_queue.specs.Outbound.{ringsIn, ringRoom, waiting, flying, senderOf, Counted};
+ghost use Rattle.outbound_queue.specs.Outbound.{ringsIn, ringRoom, waiting, senderOf, Counted};
 ghost use Rattle.outbound_steps.specs.Steps.{endsStarted};
 
 pub struct Taken {
     pub queue: OutboundQueue,
     pub front: Found,
-}
-
-// The bytes that the message held in flight.
-pub struct Freed {
-    pub queue: OutboundQueue,
-    pub bytes: u64,
 }
 
 // `bytes` is what the removed chunks held, and `last` the last of them.
@@ -47,8 +38,6 @@ pub struct Joined {
     pub queue: OutboundQueue,
     pub done: bool,
 }
-
-// ---- what is pending
 
 // Starts the lifetimes of the messages not yet seen, at the ends of the rings; all are seen then. A clock beyond its limit is taken as the
 // limit.
@@ -94,7 +83,7 @@ pub fn remove_pending(q: OutboundQueue, cells: &[u64], number: u64) -> Removed
     ensures { λ r. ⌜ ((ts : List Stream) → senderOf ts (r .queue) (now (cells .entry)) ≡ withPending (withoutRuns number (waiting q (ringsIn (now (cells .entry))))) (senderOf ts q (now (cells .entry)))) × (r .bytes ≡ bytes (runs number (waiting q (ringsIn (now (cells .entry)))))) × (r .last ≡ found (last (runs number (waiting q (ringsIn (now (cells .entry))))))) × (Counted q (now (cells .entry)) → Counted (r .queue) (now (cells .entry))) ⌝ }
 {
     let k = cells.len() / 24 * 8;
-    let rest = pending_queue::remove_message(q.pending, &cells[0..k], &cells[k..k + k], number);
+    let rest = pending_removal::remove_message(q.pending, &cells[0..k], &cells[k..k + k], number);
     let pending = rest.queue;
     let inflight = q.inflight;
     let last = rest.last;
@@ -115,7 +104,7 @@ pub fn lower_ssns(q: OutboundQueue, cells: &mut [u64], stream: u16)
     ensures { λ _. ⌜ ((ts : List Stream) → senderOf ts q (now (cells .exit)) ≡ withPending (withRing Ordered (waiting q (ringsIn (now (cells .entry))) .underWay) (map (lowered stream) (waiting q (ringsIn (now (cells .entry))) .ordered)) (waiting q (ringsIn (now (cells .entry))))) (senderOf ts q (now (cells .entry)))) × (Counted q (now (cells .entry)) → Counted q (now (cells .exit))) ⌝ }
 {
     let k = cells.len() / 24 * 8;
-    pending_queue::compact_ordered_ssns(q.pending, &mut cells[k..k + k], stream)
+    pending_removal::compact_ordered_ssns(q.pending, &mut cells[k..k + k], stream)
 }
 
 // A message's fragments join the back of its ring. Where there is no room for all of them, or the offset is beyond its limit, nothing
@@ -170,50 +159,5 @@ pub fn add_fragments(
             next_unstarted_message_id: q.next_unstarted_message_id,
         },
         done: added.done,
-    }
-}
-
-// ---- the flight
-
-// Whether the flight has room for no more than a terminator.
-pub fn is_full(q: OutboundQueue, cells: &[u64]) -> bool
-    ensures { λ r. ⌜ r ≡ leb (ringRoom (now (cells .entry))) (suc (length (flying q (ringsIn (now (cells .entry))) .entries))) ⌝ }
-{
-    let k = cells.len() / 24 * 8;
-    let room = cells::room(&cells[k + k..k + k + k]);
-    room <= payload_queue::len(q.inflight, &cells[k + k..k + k + k]) + 1
-}
-
-// A chunk goes behind the entries, where there is room.
-pub fn file(q: OutboundQueue, cells: &mut [u64], chunk: Chunk) -> OutboundQueue
-    ensures { λ r. ⌜ ((ts : List Stream) → senderOf ts r (now (cells .exit)) ≡ withFlight (filed (ringRoom (now (cells .entry))) chunk (flying q (ringsIn (now (cells .entry))))) (senderOf ts q (now (cells .entry)))) × (Counted q (now (cells .entry)) → Counted r (now (cells .exit))) ⌝ }
-{
-    let k = cells.len() / 24 * 8;
-    let longer = payload_queue::push(q.inflight, &mut cells[k + k..k + k + k], chunk);
-    let pending = q.pending;
-    OutboundQueue {
-        pending: pending,
-        inflight: longer,
-        next_message_id: q.next_message_id,
-        next_unstarted_message_id: q.next_unstarted_message_id,
-    }
-}
-
-// Gives up every entry of a message.
-pub fn give_up_entries(q: OutboundQueue, cells: &mut [u64], number: u64) -> Freed
-    ensures { λ r. ⌜ ((ts : List Stream) → senderOf ts (r .queue) (now (cells .exit)) ≡ withFlight (changed (map (givenUp number)) (flying q (ringsIn (now (cells .entry))))) (senderOf ts q (now (cells .entry)))) × (r .bytes ≡ bytes (keep (isOf number) (flying q (ringsIn (now (cells .entry))) .entries))) × (Counted q (now (cells .entry)) → Counted (r .queue) (now (cells .exit))) ⌝ }
-{
-    let k = cells.len() / 24 * 8;
-    let freed = payload_queue::abandon_message(q.inflight, &mut cells[k + k..k + k + k], number);
-    let pending = q.pending;
-    let inflight = freed.queue;
-    Freed {
-        queue: OutboundQueue {
-            pending: pending,
-            inflight: inflight,
-            next_message_id: q.next_message_id,
-            next_unstarted_message_id: q.next_unstarted_message_id,
-        },
-        bytes: freed.bytes,
     }
 }

@@ -36,14 +36,14 @@ fn chunk(c: Chunk) {
 }
 
 fn state(q: OutboundQueue, cells: &[u64]) {
-    show::number(b"pending ", outbound_queue::pending_len(q, cells) as u64);
-    show::number(b" of bytes ", outbound_queue::pending_bytes(q));
+    show::number(b"pending ", outbound_asks::pending_len(q, cells) as u64);
+    show::number(b" of bytes ", outbound_asks::pending_bytes(q));
     show::number(
         b", in flight ",
-        outbound_queue::inflight_len(q, cells) as u64,
+        outbound_asks::inflight_len(q, cells) as u64,
     );
-    show::number(b" of bytes ", outbound_queue::inflight_bytes(q));
-    show::number(b", next TSN ", outbound_queue::next_tsn(q, cells) as u64);
+    show::number(b" of bytes ", outbound_asks::inflight_bytes(q));
+    show::number(b", next TSN ", outbound_asks::next_tsn(q, cells) as u64);
     show::line();
 }
 
@@ -97,7 +97,7 @@ fn pop(q: OutboundQueue, cells: &[u64], tsn: u32) -> OutboundQueue {
 }
 
 fn abandon(q: OutboundQueue, cells: &mut [u64], tsn: u32) -> OutboundQueue {
-    let given = outbound_expiry::abandon(q, cells, tsn);
+    let given = outbound_abandon::abandon(q, cells, tsn);
     show::number(b"abandon ", tsn as u64);
     let answer = given.answer;
     match answer {
@@ -113,7 +113,7 @@ fn abandon(q: OutboundQueue, cells: &mut [u64], tsn: u32) -> OutboundQueue {
 
 fn expired(q: OutboundQueue, cells: &[u64], clock: u64) {
     let mut out = [7u32; 3];
-    let listed = outbound_expiry::expired_inflight(q, cells, clock, &mut out);
+    let listed = outbound_overdue::expired_inflight(q, cells, clock, &mut out);
     show::number(b"expired at ", clock);
     match listed {
         Listed::Count(n) => show::number(b": ", n as u64),

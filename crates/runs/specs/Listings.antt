@@ -9,7 +9,7 @@ use Rattle.model.specs.declared.Listed.{Listed}
 use Rattle.model.specs.Rings.{Listing, tsnsAre, refused}
 use Rattle.model.specs.Calls.{toList}
 use Rattle.rows.specs.Parts.{part, part-length}
-use Rattle.outbound_expiry.specs.Lean.{Lent, listedIn}
+use Rattle.outbound_overdue.specs.Lean.{Lent, listedIn}
 use Rattle.coded_answers.specs.Words.{words}
 
 -- the answer, and the list behind the call

@@ -36,7 +36,7 @@ fn list_into(
 ) -> usize
     ensures { λ r. ⌜ (Good (roomIn (now (cells .entry))) (senderOf h (now (cells .entry))) → (us : List ℕ) → sets (now (tape .exit)) r us ≡ sets (now (tape .entry)) at (words (toList (expiredInflight clock (length (now (list .entry))) (senderOf h (now (cells .entry))))) ++ us)) ⌝ }
 {
-    let listed = sender_queue::expired_inflight(h, cells, clock, list);
+    let listed = sender_inflight::expired_inflight(h, cells, clock, list);
     match listed {
         Listed::Refused(n) => tape::put_five(tape, at, 12, 0, n as u64, 0, 0),
         Listed::Count(n) => {

@@ -13,11 +13,14 @@ fn state(h: Head, cells: &[u64]) {
     show::number(b"  pending ", sender_asks::pending_length(h, cells) as u64);
     show::number(
         b", in flight ",
-        sender_asks::inflight_length(h, cells) as u64,
+        sender_flight_asks::inflight_length(h, cells) as u64,
     );
-    show::number(b", next TSN ", sender_asks::next_tsn(h, cells) as u64);
+    show::number(
+        b", next TSN ",
+        sender_flight_asks::next_tsn(h, cells) as u64,
+    );
     show::number(b", next message ", sender_asks::next_message(h));
-    let amount = sender_streams::buffered_amount(h, cells, 1);
+    let amount = sender_stream_asks::buffered_amount(h, cells, 1);
     match amount {
         Amount::Is(bytes) => show::number(b", amount ", bytes),
         Amount::Refused(n) => show::number(b", amount: refusal ", n as u64),
@@ -104,7 +107,7 @@ fn send_many(h: Head, cells: &mut [u64], times: u32) -> Head {
 fn pass(h: Head, cells: &mut [u64]) -> Head {
     let writing = sender_write::write(h, cells, 1, 53, 0, 65_515);
     let sent = send_many(writing.head, cells, 1);
-    let popped = sender_queue::pop(sent, cells, sent.queue.inflight.oldest);
+    let popped = sender_inflight::pop(sent, cells, sent.queue.inflight.oldest);
     popped.head
 }
 
@@ -208,7 +211,7 @@ fn abandon(h: Head, cells: &mut [u64], tsn: u32) -> Head {
 
 fn expired(label: &[u8], h: Head, cells: &[u64], clock: u64) {
     let mut out = [9u32; 3];
-    let listed = sender_queue::expired_inflight(h, cells, clock, &mut out);
+    let listed = sender_inflight::expired_inflight(h, cells, clock, &mut out);
     show::text(label);
     match listed {
         Listed::Count(n) => show::number(b": ", n as u64),

@@ -1,6 +1,5 @@
 // What is asked of a sender by value: nothing changes. Each answer is the model's (`answer` of model/specs/Calls), of every sender; the two
 // sums of bytes are kept, and are the sums where they were (`Sums`).
-use model::Amount;
 use model::Earliest;
 use model::Found;
 use sender::Sender;
@@ -9,19 +8,16 @@ ghost use mathlib.Core.List.{_++_};
 ghost use Prim.Native.Nat.{_+_};
 ghost use lib.ListN.{length};
 ghost use Rattle.model.specs.State.{inFlight, nextTsn};
-ghost use Rattle.model.specs.Streams.{find, amount, counts};
 ghost use Rattle.model.specs.Rings.{head, bytes};
 ghost use Rattle.model.specs.Flight.{found, isAbandoned, hasStream, earliestOutstanding};
 ghost use Rattle.sender.specs.Value.{stateOf, Sums};
-
-// ---- what is pending and in flight
 
 // The entry of a TSN.
 pub fn get(s: Sender, tsn: u32) -> Found
     ensures { λ r. ⌜ r ≡ found (inFlight tsn (stateOf s .flight)) ⌝ }
 {
     let cells = s.cells;
-    sender_asks::get(s.head, &cells, tsn)
+    sender_flight_asks::get(s.head, &cells, tsn)
 }
 
 // No for a TSN that is not in flight.
@@ -29,7 +25,7 @@ pub fn is_abandoned(s: Sender, tsn: u32) -> bool
     ensures { λ r. ⌜ r ≡ isAbandoned (inFlight tsn (stateOf s .flight)) ⌝ }
 {
     let cells = s.cells;
-    sender_asks::is_abandoned(s.head, &cells, tsn)
+    sender_flight_asks::is_abandoned(s.head, &cells, tsn)
 }
 
 // The chunk that is sent next.
@@ -52,7 +48,7 @@ pub fn next_tsn(s: Sender) -> u32
     ensures { λ r. ⌜ r ≡ nextTsn (stateOf s) ⌝ }
 {
     let cells = s.cells;
-    sender_asks::next_tsn(s.head, &cells)
+    sender_flight_asks::next_tsn(s.head, &cells)
 }
 
 pub fn pending_length(s: Sender) -> usize
@@ -72,13 +68,13 @@ pub fn inflight_length(s: Sender) -> usize
     ensures { λ r. ⌜ r ≡ length (stateOf s .flight .entries) ⌝ }
 {
     let cells = s.cells;
-    sender_asks::inflight_length(s.head, &cells)
+    sender_flight_asks::inflight_length(s.head, &cells)
 }
 
 pub fn inflight_bytes(s: Sender) -> u64
     ensures { λ r. ⌜ (Sums s → r ≡ bytes (stateOf s .flight .entries)) ⌝ }
 {
-    sender_asks::inflight_bytes(s.head)
+    sender_flight_asks::inflight_bytes(s.head)
 }
 
 // The oldest TSN that is neither acknowledged nor abandoned.
@@ -86,7 +82,7 @@ pub fn earliest_outstanding(s: Sender) -> Earliest
     ensures { λ r. ⌜ r ≡ earliestOutstanding (stateOf s) ⌝ }
 {
     let cells = s.cells;
-    sender_asks::earliest_outstanding(s.head, &cells)
+    sender_flight_asks::earliest_outstanding(s.head, &cells)
 }
 
 // Whether a stream has chunks pending.
@@ -103,35 +99,4 @@ pub fn contains_stream(s: Sender, identifier: u16) -> bool
 {
     let cells = s.cells;
     sender_asks::contains_stream(s.head, &cells, identifier)
-}
-
-// ---- a stream. Refusal: 3
-
-pub fn buffered_amount(s: Sender, identifier: u16) -> Amount
-    ensures { λ r. ⌜ r ≡ amount (find identifier (stateOf s .streams)) (λ t. t .buffered) ⌝ }
-{
-    let cells = s.cells;
-    sender_streams::buffered_amount(s.head, &cells, identifier)
-}
-
-pub fn low_threshold(s: Sender, identifier: u16) -> Amount
-    ensures { λ r. ⌜ r ≡ amount (find identifier (stateOf s .streams)) (λ t. t .low) ⌝ }
-{
-    let cells = s.cells;
-    sender_streams::low_threshold(s.head, &cells, identifier)
-}
-
-pub fn high_threshold(s: Sender, identifier: u16) -> Amount
-    ensures { λ r. ⌜ r ≡ amount (find identifier (stateOf s .streams)) (λ t. t .high) ⌝ }
-{
-    let cells = s.cells;
-    sender_streams::high_threshold(s.head, &cells, identifier)
-}
-
-// Messages and bytes sent.
-pub fn statistics(s: Sender, identifier: u16) -> model::Counted
-    ensures { λ r. ⌜ r ≡ counts (find identifier (stateOf s .streams)) ⌝ }
-{
-    let cells = s.cells;
-    sender_streams::statistics(s.head, &cells, identifier)
 }

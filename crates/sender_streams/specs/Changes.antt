@@ -13,14 +13,12 @@ use Rattle.limits.specs.Refusals.{badBounds, notOpen, alreadyOpen, streamsFull}
 use Rattle.model.specs.declared.Stream.{Stream}
 use Rattle.model.specs.declared.Done.{Done}
 use Rattle.model.specs.declared.Released.{Released}
-use Rattle.model.specs.declared.Amount.{Amount}
-use Rattle.model.specs.declared.Counted.{Counted}
 use Rattle.model.specs.Lists.{if_then_else_}
 use Rattle.model.specs.State.{Sender, Out, same, withStreams}
-use Rattle.model.specs.Streams.{find, put, delivering, thresholds, accounted, opened, openNew, openStream, changed, setReliability, setLow, setHigh, releasing, release, amount, counts}
+use Rattle.model.specs.Streams.{find, put, delivering, thresholds, accounted, opened, openNew, openStream, changed, setReliability, setLow, setHigh, releasing, release}
 use Rattle.model.specs.Rings.{ssnBefore, dropSsn}
-use Rattle.stream.specs.declared.Freed.{Freed}
-use Rattle.stream.specs.Amounts.{freeing}
+use Rattle.stream_amounts.specs.declared.Freed.{Freed}
+use Rattle.stream_amounts.specs.Amounts.{freeing}
 use Rattle.stream_table.specs.declared.Place.the-variants.{At, Nothing}
 use Rattle.stream_table.specs.Tables.{sought, joined, none-found, at-found, update-put, joined-room}
 
@@ -52,23 +50,11 @@ module _ (id : ℕ) (s : Sender) (e : Nothing ≡ sought id (s .streams)) where
   pub none-lowered : s ≡ withStreams (dropSsn (find id (s .streams)) (s .streams)) s
   none-lowered = sym (ap (λ (o : Option Stream). withStreams (dropSsn o (s .streams)) s) absent)
 
-  pub amount-refused : (f : Stream → ℕ) → Amount.Refused notOpen ≡ amount (find id (s .streams)) f
-  amount-refused f = sym (ap (λ (o : Option Stream). amount o f) absent)
-
-  pub counts-refused : Counted.Refused notOpen ≡ counts (find id (s .streams))
-  counts-refused = sym (ap counts absent)
-
 -- ---- the open stream `t`, at the place `i`
 
 module _ (id : ℕ) (s : Sender) (i : ℕ) (t : Stream) (e : At i t ≡ sought id (s .streams)) where
   present : find id (s .streams) ≡ some t
   present = at-found id (s .streams) i t e .0
-
-  pub amount-is : (f : Stream → ℕ) → Amount.Is (f t) ≡ amount (find id (s .streams)) f
-  amount-is f = sym (ap (λ (o : Option Stream). amount o f) present)
-
-  pub counts-are : Counted.Are (t .statistics) ≡ counts (find id (s .streams))
-  counts-are = sym (ap counts present)
 
   -- `x` takes its place, and `z` is the sender then
   module _ {x : Stream} {z : Sender} (b : z ≡ withStreams (set (s .streams) i x) s) where

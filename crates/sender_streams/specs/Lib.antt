@@ -1,3 +1,2 @@
--- Tables: the table of streams among the sender's cells. Changes: what each way out of a call comes to.
-pub mod Tables
+-- Changes: what each way out of a call comes to.
 pub mod Changes

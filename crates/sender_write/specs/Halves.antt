@@ -1,55 +1,37 @@
--- What a call on one half of the cells comes to, of the whole sender: `k` is where the queue begins, as code counts it, and `p` are the
--- words of the half then.
+-- What a push on the queue's half of the cells comes to, of the whole sender: `k` is where the queue begins, as code counts it, and `p` are
+-- the words of that half then.
 use mathlib.Core.Path.{_≡_, sym, ap, subst, _∙_}
 use mathlib.Core.List.{List}
 use Prim.Native.Nat.{ℕ}
-use lib.ListN.{length, set}
+use lib.ListN.{length}
 use Rattle.model.specs.declared.Done.{Done}
 use Rattle.model.specs.declared.Message.{Message}
 use Rattle.model.specs.declared.Stream.{Stream}
-use Rattle.model.specs.State.{Sender, withStreams}
+use Rattle.model.specs.State.{Sender}
 use Rattle.rows.specs.Parts.{part, patch}
-use Rattle.stream_table.specs.declared.Place.{Place}
-use Rattle.stream_table.specs.Tables.{tableOf, sought}
+use Rattle.stream_table.specs.Tables.{tableOf}
 use Rattle.outbound_queue.specs.declared.OutboundQueue.{OutboundQueue}
 use Rattle.outbound_queue.specs.Outbound as Queue
 use Rattle.outbound_push.specs.Pushes.{pushing}
 use Rattle.sender_head.specs.declared.Head.{Head}
-use Rattle.sender_head.specs.Whole.{tableWords, Halves, halves, roomIn, senderOf, Counted, parts-are, table-back, queue-back, sender-by, counted-by, other-table}
+use Rattle.sender_head.specs.Whole.{tableWords, Halves, halves, roomIn, senderOf, Counted, parts-are, queue-back, sender-by, counted-by}
 
-module _ (h : Head) (ws : List ℕ) (k : ℕ) (counted : k ≡ tableWords ws) where
-  -- a stream is sought
-  pub sought-in : (id : ℕ) {f : Place} → f ≡ sought id (tableOf (h .streams) (part 0 k ws)) → f ≡ sought id (senderOf h ws .streams)
-  sought-in id e = e ∙ ap (λ (c : Halves). sought id (tableOf (h .streams) (c .table))) (parts-are ws k counted)
+-- `q` is the queue then
+module _ (h : Head) (ws : List ℕ) (k : ℕ) (counted : k ≡ tableWords ws) (p : List ℕ) (e : length p ≡ length (part k (length ws) ws)) (q : OutboundQueue) where
+  -- the head then
+  abbrev behind : Head
+  behind = record { queue = q; streams = h .streams }
 
-  module _ (p : List ℕ) where
-    -- a message was pushed: `q` is the queue then
-    module _ (e : length p ≡ length (part k (length ws) ws)) (q : OutboundQueue) where
-      -- the head then
-      abbrev behind : Head
-      behind = record { queue = q; streams = h .streams }
+  pub pushed-is : (x : Message) {y : Message} → y ≡ x → (m o n : ℕ) {d : Done}
+      → ((ts : List Stream) → record { after = Queue.senderOf ts q p; says = d } ≡ pushing (Queue.ringRoom (part k (length ws) ws)) y m o n (Queue.senderOf ts (h .queue) (part k (length ws) ws)))
+      → record { after = senderOf behind (patch k (length ws) ws p); says = d } ≡ pushing (roomIn ws .ring) x m o n (senderOf h ws)
+  pushed-is x {y} r m o n {d} f =
+      let ts = tableOf (h .streams) (halves ws .table) in
+      ap (λ (s : Sender). record { after = s; says = d }) (sender-by behind (patch k (length ws) ws p) (queue-back ws k counted p e)) ∙ f ts
+      ∙ ap (λ (c : Halves). pushing (Queue.ringRoom (c .queue)) y m o n (Queue.senderOf ts (h .queue) (c .queue))) (parts-are ws k counted)
+      ∙ ap (λ (z : Message). pushing (roomIn ws .ring) z m o n (senderOf h ws)) r
 
-      pub pushed-is : (x : Message) {y : Message} → y ≡ x → (m o n : ℕ) {d : Done}
-          → ((ts : List Stream) → record { after = Queue.senderOf ts q p; says = d } ≡ pushing (Queue.ringRoom (part k (length ws) ws)) y m o n (Queue.senderOf ts (h .queue) (part k (length ws) ws)))
-          → record { after = senderOf behind (patch k (length ws) ws p); says = d } ≡ pushing (roomIn ws .ring) x m o n (senderOf h ws)
-      pushed-is x {y} r m o n {d} f =
-          let ts = tableOf (h .streams) (halves ws .table) in
-          ap (λ (s : Sender). record { after = s; says = d }) (sender-by behind (patch k (length ws) ws p) (queue-back ws k counted p e)) ∙ f ts
-          ∙ ap (λ (c : Halves). pushing (Queue.ringRoom (c .queue)) y m o n (Queue.senderOf ts (h .queue) (c .queue))) (parts-are ws k counted)
-          ∙ ap (λ (z : Message). pushing (roomIn ws .ring) z m o n (senderOf h ws)) r
-
-      pub pushed-counted : (Queue.Counted (h .queue) (part k (length ws) ws) → Queue.Counted q p) → Counted h ws → Counted behind (patch k (length ws) ws p)
-      pushed-counted f z =
-          counted-by behind (patch k (length ws) ws p) (queue-back ws k counted p e)
-          (f (subst (λ (c : Halves). Queue.Counted (h .queue) (c .queue)) (sym (parts-are ws k counted)) z))
-
-    -- the stream at a place was replaced
-    module _ (e : length p ≡ length (part 0 k ws)) where
-      pub replaced-is : (i : ℕ) (t : Stream) → tableOf (h .streams) p ≡ set (tableOf (h .streams) (part 0 k ws)) i t
-          → senderOf h (patch 0 k ws p) ≡ withStreams (set (senderOf h ws .streams) i t) (senderOf h ws)
-      replaced-is i t f =
-          sender-by h (patch 0 k ws p) (table-back ws k counted p e)
-          ∙ other-table h (halves ws) (h .streams) p (f ∙ ap (λ (c : Halves). set (tableOf (h .streams) (c .table)) i t) (parts-are ws k counted))
-
-      pub replaced-counted : Counted h ws → Counted h (patch 0 k ws p)
-      replaced-counted z = counted-by h (patch 0 k ws p) (table-back ws k counted p e) z
+  pub pushed-counted : (Queue.Counted (h .queue) (part k (length ws) ws) → Queue.Counted q p) → Counted h ws → Counted behind (patch k (length ws) ws p)
+  pushed-counted f z =
+      counted-by behind (patch k (length ws) ws p) (queue-back ws k counted p e)
+      (f (subst (λ (c : Halves). Queue.Counted (h .queue) (c .queue)) (sym (parts-are ws k counted)) z))

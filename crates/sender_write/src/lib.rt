@@ -5,8 +5,6 @@ use model::Written;
 use sender_head::Head;
 use stream_table::Place;
 ghost use mathlib.Core.Path.{_≡_};
-ghost use lib.ListN.{set};
-ghost use Rattle.model.specs.State.{withStreams};
 ghost use Rattle.model.specs.Messages.{messageOf, write};
 ghost use Rattle.outbound_push.specs.Pushes.{pushing};
 ghost use Rattle.sender_head.specs.Whole.{roomIn, senderOf, Counted};
@@ -54,14 +52,6 @@ fn enqueue(
     }
 }
 
-// The stream at a place is replaced. The head's numbers stay.
-fn replace(h: Head, cells: &mut [u64], place: usize, stream: Stream)
-    ensures { λ _. ⌜ (senderOf h (now (cells .exit)) ≡ withStreams (set (senderOf h (now (cells .entry)) .streams) place stream) (senderOf h (now (cells .entry)))) × (Counted h (now (cells .entry)) → Counted h (now (cells .exit))) ⌝ }
-{
-    let k = sender_head::table_words(cells);
-    stream_table::update(h.streams, &mut cells[0..k], place, stream)
-}
-
 // The caller keeps the bytes: a message is where they begin and how many they are.
 pub fn write(
     h: Head,
@@ -73,8 +63,7 @@ pub fn write(
 ) -> Writing
     ensures { λ r. ⌜ (record { after = senderOf (r .head) (now (cells .exit)); says = r .answer } ≡ write (roomIn (now (cells .entry))) identifier protocol offset length (senderOf h (now (cells .entry)))) × (Counted h (now (cells .entry)) → Counted (r .head) (now (cells .exit))) ⌝ }
 {
-    let k = sender_head::table_words(cells);
-    let found = stream_table::find(h.streams, &cells[0..k], identifier);
+    let found = sender_table::seek(h, cells, identifier);
     let Place::At(place, stream) = found else {
         return Writing {
             head: h,
@@ -94,7 +83,7 @@ pub fn write(
         };
     }
     let bytes = length as u32;
-    if stream::would_overflow(stream, bytes) {
+    if stream_amounts::would_overflow(stream, bytes) {
         return Writing {
             head: h,
             answer: Written::Refused(limits::BUFFER_FULL),
@@ -109,9 +98,9 @@ pub fn write(
             answer: Written::Refused(number),
         };
     }
-    let written = stream::written(stream, protocol, bytes);
+    let written = stream_amounts::written(stream, protocol, bytes);
     let after = written.stream;
-    replace(head, cells, place, after);
+    sender_table::replace(head, cells, place, after);
     Writing {
         head: head,
         answer: Written::Accepted(written.high),

@@ -3,7 +3,7 @@ use mathlib.Core.Path.{sym, _∙_}
 use denote.Ref.{now}
 use borrow.Author.Tests.{not-true, not-false}
 use Rattle.outbound_queue.specs.Outbound.{senderOf, does}
-use Rattle.outbound_expiry.specs.Abandons.{lean-expire-tail, tail-late, tail-none, tail-not, tail-one}
+use Rattle.outbound_expiry.specs.Tails.{lean-expire-tail, tail-late, tail-none, tail-not, tail-one}
 use borrow.Author.Needs.{needs}
 use Rattle.outbound_expiry.proofs.expire_pending_tail.Statement.{statement}
 use Rattle.outbound_expiry.proofs.expire_pending_tail.Tie as tie

@@ -1,7 +1,7 @@
 -- The queue's call, of the whole sender; the table stays.
 use Rattle.sender_head.specs.Whole.{roomIn}
 use denote.Ref.{now}
-use Rattle.outbound_expiry.specs.Lean.{leanAbandon}
+use Rattle.outbound_abandon.specs.Lean.{leanAbandon}
 use Rattle.model.specs.Rings.{abandon}
 use Rattle.sender_head.specs.Lent.{open-streams, lent-sender, lent-room, lent-counted, back-sender, back-counted, does-of, told-of}
 use borrow.Author.Needs.{needs}

@@ -2,26 +2,13 @@
 use mathlib.Core.Path.{refl, sym, _∙_}
 use denote.Ref.{now}
 use Rattle.sender_head.specs.Whole.{roomIn, senderOf}
-use Rattle.sender_write.specs.Halves.{sought-in}
 use Rattle.sender_write.specs.Writes.{write-closed, write-long, write-far, write-over, write-refused, write-done}
 use borrow.Author.Needs.{needs}
 use Rattle.sender_write.proofs.write.Statement.{statement}
 use Rattle.sender_write.proofs.write.Tie as tie
 
-table-words-requires : tie.Need-table-words-requires
-table-words-requires c κs = search needs
-
-sub-find : tie.Need-sub-find
-sub-find c = search needs
-
-part-find-start : tie.Need-part-find-start
-part-find-start c = search needs
-
-part-find-end : tie.Need-part-find-end
-part-find-end c = search needs
-
-find-requires : tie.Need-find-requires
-find-requires c κs = search needs
+seek-requires : tie.Need-seek-requires
+seek-requires c κs = search needs
 
 enum-known-found : tie.Need-enum-known-found
 enum-known-found c = search needs
@@ -34,10 +21,9 @@ same-length c = search needs
 
 returns : tie.Need-returns
 returns c =
-    let a = c .before .before .before .before .before .before .before .before .args in
+    let a = c .before .before .before .before .before .args in
     let ws = now (a .cells) in
-    let w = c .before .before .before .before .before .table-words in
-    let e = sym (c .enum-told .given .1) ∙ sought-in (a .h) ws (w .result) (w .ensures .0) (a .identifier) (c .before .before .find .ensures) in
+    let e = sym (c .enum-told .given .1) ∙ c .before .before .seek .ensures in
     let t = write-closed (roomIn ws) (a .identifier) (a .protocol) (a .offset) (a .length) (senderOf (a .h) ws) e in
     (t, λ z. z)
 
@@ -47,11 +33,10 @@ same-length-2 c = search needs
 returns-2 : tie.Need-returns-2
 returns-2 c =
     let f = c .before .before in
-    let a = f .before .before .before .before .before .before .before .before .args in
+    let a = f .before .before .before .before .before .args in
     let ws = now (a .cells) in
-    let w = f .before .before .before .before .before .table-words in
     let x = f .found .given in
-    let e = sym (x .1) ∙ sought-in (a .h) ws (w .result) (w .ensures .0) (a .identifier) (f .before .before .find .ensures) in
+    let e = sym (x .1) ∙ f .before .before .seek .ensures in
     let t = write-long (roomIn ws) (a .identifier) (a .protocol) (a .offset) (a .length) (senderOf (a .h) ws) (x .0 .0) (x .0 .1 .0) e (c .if1 .taken) in
     (t, λ z. z)
 
@@ -61,11 +46,10 @@ same-length-3 c = search needs
 returns-3 : tie.Need-returns-3
 returns-3 c =
     let f = c .before .before .before in
-    let a = f .before .before .before .before .before .before .before .before .args in
+    let a = f .before .before .before .before .before .args in
     let ws = now (a .cells) in
-    let w = f .before .before .before .before .before .table-words in
     let x = f .found .given in
-    let e = sym (x .1) ∙ sought-in (a .h) ws (w .result) (w .ensures .0) (a .identifier) (f .before .before .find .ensures) in
+    let e = sym (x .1) ∙ f .before .before .seek .ensures in
     let t = write-far (roomIn ws) (a .identifier) (a .protocol) (a .offset) (a .length) (senderOf (a .h) ws) (x .0 .0) (x .0 .1 .0) e (c .before .if1 .left) (c .if2 .taken) in
     (t, λ z. z)
 
@@ -81,11 +65,10 @@ same-length-4 c = search needs
 returns-4 : tie.Need-returns-4
 returns-4 c =
     let f = c .before .before .before .before .before in
-    let a = f .before .before .before .before .before .before .before .before .args in
+    let a = f .before .before .before .before .before .args in
     let ws = now (a .cells) in
-    let w = f .before .before .before .before .before .table-words in
     let x = f .found .given in
-    let e = sym (x .1) ∙ sought-in (a .h) ws (w .result) (w .ensures .0) (a .identifier) (f .before .before .find .ensures) in
+    let e = sym (x .1) ∙ f .before .before .seek .ensures in
     let t = write-over (roomIn ws) (a .identifier) (a .protocol) (a .offset) (a .length) (senderOf (a .h) ws) (x .0 .0) (x .0 .1 .0) e (c .before .before .before .if1 .left) (c .before .before .if2 .left) (c .before .would-overflow .ensures) (c .if3 .taken) in
     (t, λ z. z)
 
@@ -102,11 +85,10 @@ returns-5 : tie.Need-returns-5
 returns-5 c =
     let g = c .before .before .before .before .before .before in
     let f = g .before .before .before .before .before .before .before in
-    let a = f .before .before .before .before .before .before .before .before .args in
+    let a = f .before .before .before .before .before .args in
     let ws = now (a .cells) in
-    let w = f .before .before .before .before .before .table-words in
     let x = f .found .given in
-    let e = sym (x .1) ∙ sought-in (a .h) ws (w .result) (w .ensures .0) (a .identifier) (f .before .before .find .ensures) in
+    let e = sym (x .1) ∙ f .before .before .seek .ensures in
     let t = write-refused (roomIn ws) (a .identifier) (a .protocol) (a .offset) (a .length) (senderOf (a .h) ws) (x .0 .0) (x .0 .1 .0) e (g .before .before .before .before .before .if1 .left) (g .before .before .before .before .if2 .left) (g .before .before .before .would-overflow .ensures) (g .before .before .if3 .left) (a .h .queue .«next_message_id») (g .enqueue .ensures .0) (c .before .answer .given .1) in
     (t, g .enqueue .ensures .1)
 
@@ -126,11 +108,10 @@ returns-6 : tie.Need-returns-6
 returns-6 c =
     let g = c .before .before .before .before .before .before .before .before .before .before .before in
     let f = g .before .before .before .before .before .before .before in
-    let a = f .before .before .before .before .before .before .before .before .args in
+    let a = f .before .before .before .before .before .args in
     let ws = now (a .cells) in
-    let w = f .before .before .before .before .before .table-words in
     let x = f .found .given in
-    let e = sym (x .1) ∙ sought-in (a .h) ws (w .result) (w .ensures .0) (a .identifier) (f .before .before .find .ensures) in
+    let e = sym (x .1) ∙ f .before .before .seek .ensures in
     let t = write-done (roomIn ws) (a .identifier) (a .protocol) (a .offset) (a .length) (senderOf (a .h) ws) (x .0 .0) (x .0 .1 .0) e (g .before .before .before .before .before .if1 .left) (g .before .before .before .before .if2 .left) (g .before .before .before .would-overflow .ensures) (g .before .before .if3 .left) (a .h .queue .«next_message_id») (g .enqueue .ensures .0) (c .before .before .before .before .before .before .enum-told2 .given .1) (c .before .before .before .before .before .written .ensures) (c .before .before .replace .ensures .0) refl in
     (t, λ z. c .before .before .replace .ensures .1 (g .enqueue .ensures .1 z))
 
@@ -138,11 +119,7 @@ pub write-spec : {M : Type 1} → statement M
 write-spec =
     tie.close
     (tie.spec
-    table-words-requires
-    sub-find
-    part-find-start
-    part-find-end
-    find-requires
+    seek-requires
     enum-known-found
     enum-told
     same-length

@@ -1,0 +1,41 @@
+-- An abandonment as the code makes it, of any state at all: a message's leading run goes for all of its chunks, and its terminator is filed
+-- where there is room. In a `Good` state it is the model's call.
+use mathlib.Core.Option.{Option, none, some}
+use mathlib.Core.List.{map}
+use Prim.Native.Nat.{ℕ, _+_}
+use Rattle.limits.specs.Limits.{Room}
+use Rattle.model.specs.declared.Abandoned.{Abandoned}
+use Rattle.model.specs.declared.Chunk.{Chunk}
+use Rattle.model.specs.Lists.{if_then_else_, keep, last}
+use Rattle.model.specs.State.{Sender, Flight, Out, same, inFlight, isOf}
+use Rattle.model.specs.Rings.{bytes, givenUp, terminator}
+use Rattle.payload_queue.specs.Queue.{changed, filed}
+use Rattle.pending_queue.specs.Runs.{runs, withoutRuns}
+
+-- behind the removed chunks a terminator, where there is room
+abbrev pub closedBy : (room : ℕ) → (lastRemoved : Option Chunk) → Flight → Flight
+closedBy room none f = f
+closedBy room (some c) f = filed room (terminator c) f
+
+unfoldable pub leanlyAbandoned : Room → (number : ℕ) → Sender → Sender
+leanlyAbandoned room n s =
+    record {
+      streams = s .streams;
+      pending = withoutRuns n (s .pending);
+      flight = closedBy (room .flight) (last (runs n (s .pending))) (changed (map (givenUp n)) (s .flight));
+      numbers = s .numbers;
+    }
+
+-- the bytes that it held
+unfoldable pub leanlyHeld : (number : ℕ) → Sender → ℕ
+leanlyHeld n s = bytes (keep (isOf n) (s .flight .entries)) + bytes (runs n (s .pending))
+
+abbrev pub leanlyAbandoning : Option Chunk → Room → Sender → Out Abandoned
+leanlyAbandoning none room s = same Abandoned.Nothing s
+leanlyAbandoning (some c) room s =
+    let x = c .message in
+    if c .abandoned then same (Abandoned.Message (x .stream) 0) s else
+    record { after = leanlyAbandoned room (x .number) s; says = Abandoned.Message (x .stream) (leanlyHeld (x .number) s) }
+
+unfoldable pub leanAbandon : Room → (tsn : ℕ) → Sender → Out Abandoned
+leanAbandon room t s = leanlyAbandoning (inFlight t (s .flight)) room s

@@ -1,0 +1,97 @@
+// A message is abandoned: one that was sent in part is cut off behind a terminator. Its leading run in each ring goes: in the states that calls
+// reach that is all of it (`Does`: what the call does of any state at all, and that in a `Good` one this is 01's).
+use limits::Moment;
+use model::Abandoned;
+use model::Chunk;
+use model::Found;
+use outbound_queue::OutboundQueue;
+ghost use mathlib.Core.Path.{_≡_};
+ghost use mathlib.Core.List.{List};
+ghost use Rattle.model.specs.Rings.{terminator, abandon};
+ghost use Rattle.limits.specs.Limits.{Room};
+ghost use Rattle.model.specs.declared.Stream.{Stream};
+ghost use Rattle.outbound_queue.specs.Outbound.{ringRoom, senderOf, Counted, Does};
+ghost use Rattle.outbound_abandon.specs.Lean.{leanlyAbandoned, leanlyHeld, leanAbandon};
+
+pub struct Abandoning {
+    pub queue: OutboundQueue,
+    pub answer: Abandoned,
+}
+
+// What ends a message in flight whose last fragments are not sent: it holds nothing.
+fn terminate(chunk: Chunk) -> Chunk
+    ensures { λ r. ⌜ r ≡ terminator chunk ⌝ }
+{
+    let message = chunk.message;
+    Chunk {
+        message: message,
+        beginning: false,
+        ending: true,
+        offset: chunk.offset,
+        length: 0,
+        since: Moment::Absent,
+        nsent: 0,
+        acked: chunk.acked,
+        abandoned: true,
+        retransmit: false,
+    }
+}
+
+pub struct GivenUp {
+    pub queue: OutboundQueue,
+    pub bytes: u64,
+}
+
+// A message is given up in flight, and what is pending of it goes; a terminator stands for that. The bytes are all that it held.
+pub fn give_up(q: OutboundQueue, cells: &mut [u64], number: u64) -> GivenUp
+    ensures { λ r. ⌜ ((room : Room) (ts : List Stream) → room .flight ≡ ringRoom (now (cells .entry)) → (senderOf ts (r .queue) (now (cells .exit)) ≡ leanlyAbandoned room number (senderOf ts q (now (cells .entry)))) × (r .bytes ≡ leanlyHeld number (senderOf ts q (now (cells .entry))))) × (Counted q (now (cells .entry)) → Counted (r .queue) (now (cells .exit))) ⌝ }
+{
+    let freed = outbound_flight_steps::give_up_entries(q, cells, number);
+    let removed = outbound_steps::remove_pending(freed.queue, cells, number);
+    let bytes = freed.bytes + removed.bytes;
+    let rest = removed.queue;
+    let last = removed.last;
+    let Found::One(chunk) = last else {
+        return GivenUp {
+            queue: rest,
+            bytes: bytes,
+        };
+    };
+    let after = outbound_flight_steps::file(rest, cells, terminate(chunk));
+    GivenUp {
+        queue: after,
+        bytes: bytes,
+    }
+}
+
+// Gives up the message of a TSN in flight, whatever its reliability.
+pub fn abandon(q: OutboundQueue, cells: &mut [u64], tsn: u32) -> Abandoning
+    ensures { λ r. ⌜ ((room : Room) (ts : List Stream) → room .flight ≡ ringRoom (now (cells .entry)) → Does room (senderOf ts q (now (cells .entry))) (record { after = senderOf ts (r .queue) (now (cells .exit)); says = r .answer }) (leanAbandon room tsn (senderOf ts q (now (cells .entry)))) (abandon tsn (senderOf ts q (now (cells .entry))))) × (Counted q (now (cells .entry)) → Counted (r .queue) (now (cells .exit))) ⌝ }
+{
+    let entry = outbound_asks::get(q, cells, tsn);
+    let Found::One(chunk) = entry else {
+        return Abandoning {
+            queue: q,
+            answer: Abandoned::Nothing,
+        };
+    };
+    let message = chunk.message;
+    if chunk.abandoned {
+        return Abandoning {
+            queue: q,
+            answer: Abandoned::Message {
+                stream: message.stream,
+                bytes: 0,
+            },
+        };
+    }
+    let given = give_up(q, cells, message.number);
+    let after = given.queue;
+    Abandoning {
+        queue: after,
+        answer: Abandoned::Message {
+            stream: message.stream,
+            bytes: given.bytes,
+        },
+    }
+}

@@ -1,0 +1,2 @@
+-- Asked: what is asked of the queue, as code finds it out.
+pub mod Asked

@@ -1,0 +1,2 @@
+-- Answers: what each way out of a question comes to.
+pub mod Answers

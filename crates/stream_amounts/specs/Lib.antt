@@ -1,0 +1,3 @@
+-- Amounts: what a write and a release answer. Cases: the model's definitions, case by case, as the code meets them.
+pub mod Amounts
+pub mod Cases
