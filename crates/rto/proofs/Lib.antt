@@ -1,6 +1,3 @@
--- What the proofs of `rto` share, and the proofs of its claims.
-pub mod AtMost
+-- What the proofs of `rto` share.
 pub mod Cases
 pub mod Cast
-pub mod Float
-pub mod claims

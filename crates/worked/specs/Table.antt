@@ -14,7 +14,7 @@ use Rattle.timer_entry.specs.declared.Maximum.the-variants.{Unlimited}
 use Rattle.timer.specs.Calls.{getOf, newOf}
 use Rattle.timer_claims.specs.Claims as Timers
 use Rattle.rto.specs.Rto.{f64, fresh as estimator}
-use Rattle.rto.specs.Calls as Rto
+use Rattle.rto_claims.specs.Calls as Rto
 use Rattle.model.specs.declared.Released.{Released}
 use Rattle.model.specs.State.{Sender, fresh, withStreams}
 use Rattle.model.specs.Streams.{opened, accounted, release}

@@ -11,12 +11,12 @@ use lib.Pow.{pow-add}
 use lib.Ieee.{Float}
 use Rattle.limits.specs.Limits.{settingMax}
 use Rattle.limits.specs.Refusals.{beyondLimit}
 use Rattle.rto.specs.declared.RtoManager.{RtoManager}
 use Rattle.rto.specs.declared.Set.the-variants.{Kept, Refused as Set-Refused}
 use Rattle.rto.specs.Rto.{f64, gap, nextSrtt, firstVar, nextVar, renewed, settled, sampled, countsFirst, rtoOf, resetOf, given, beyond, fresh}
-use Rattle.rto.specs.Calls.{Call, measure, get, reset, set, Outcome, ofMeasured, ofSet, called, after}
-use Rattle.rto.specs.Exact.{Exact, places, none, begun, grown, followed, exactly, Short}
+use Rattle.rto_claims.specs.Calls.{Call, measure, get, reset, set, Outcome, ofMeasured, ofSet, called, after}
+use Rattle.rto_claims.specs.Exact.{Exact, places, none, begun, grown, followed, exactly, Short}
 use Rattle.rto.proofs.Cases.{taken, frozen}
 
 -- ---- what every state of such a run has
 abbrev pub Bounded : Exact → Type 0

@@ -10,14 +10,14 @@ use borrow.Author.Tests.{ltb-false}
 use lib.Ieee.{Float, binary64, mul}
 use Rattle.limits.specs.Limits.{settingMax}
 use Rattle.limits.specs.Refusals.{beyondLimit, badBounds}
 use Rattle.rto.specs.declared.RtoManager.{RtoManager}
 use Rattle.rto.specs.declared.Made.the-variants.{Ready, Refused as Made-Refused}
 use Rattle.rto.specs.declared.Measured.the-variants.{Srtt, Refused as Measured-Refused}
 use Rattle.rto.specs.declared.Set.the-variants.{Kept, Refused as Set-Refused}
 use Rattle.rto.specs.Rto.{f64, gap, firstVar, nextVar, nextSrtt, weighed, fourTimes, clamp, renewed, settled, countsFirst, sampled, given, fresh, beyond}
-use Rattle.rto.specs.Calls.{numberOf, Accepted, Call, measure, get, reset, set, ofMeasured, ofSet, called, after}
-use Rattle.rto.specs.Range.{AtMost, StateInRange, StepInRange, InRange}
-use Rattle.rto.proofs.AtMost.{number, product, sum, quotient, cast}
+use Rattle.rto_claims.specs.Calls.{numberOf, Accepted, Call, measure, get, reset, set, ofMeasured, ofSet, called, after}
+use Rattle.rto_claims.specs.Range.{AtMost, StateInRange, StepInRange, InRange}
+use Rattle.rto_claims.proofs.AtMost.{number, product, sum, quotient, cast}
 
 -- ---- the floats of one measurement
 close : (s r : ℕ) → s ≤ settingMax → r ≤ settingMax → gap s r ≤ 2 ^ 32

@@ -10,10 +10,10 @@ use lib.Ieee.{Float, binary64, round, mul, add, div, ofInt}
 use lib.Ieee.Back.{round-whole}
 use lib.Ieee.Exact.{HasValue}
 use lib.Ieee.Scale.{round-same}
 use Rattle.rto.specs.Rto.{f64, gap, firstVar, nextVar}
-use Rattle.rto.specs.Exact.{Exact, places, none, begun, grown, Exact18}
-use Rattle.rto.proofs.Float.{whole, mul-at, add-at, div-at, dyadic}
-use Rattle.rto.proofs.claims.Runs.{Bounded, near, from-fresh}
+use Rattle.rto_claims.specs.Exact.{Exact, places, none, begun, grown, Exact18}
+use Rattle.rto_claims.proofs.Float.{whole, mul-at, add-at, div-at, dyadic}
+use Rattle.rto_claims.proofs.Runs.{Bounded, near, from-fresh}
 
 -- a value that is a rounded fraction, at the same fraction written in another way
 pub written : (x : Float) (a c a' c' : ℕ) → x ≡ round binary64 false a c → a ≡ a' → c ≡ c' → HasValue (round binary64 false a' c') false a' c' → HasValue x false a' c'

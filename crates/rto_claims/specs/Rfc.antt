@@ -3,10 +3,10 @@ use Prim.Native.Nat.{ℕ, _+_, _-_, _*_, _/_, _^_, _≤_}
 use mathlib.Core.Path.{_≡_}
 use mathlib.Core.Bool.{false}
 use mathlib.Core.List.{List}
 use Rattle.rto.specs.declared.RtoManager.{RtoManager}
 use Rattle.rto.specs.Rto.{gap, nextSrtt, clamp, fresh}
-use Rattle.rto.specs.Calls.{Call, measure, called, after}
-use Rattle.rto.specs.Exact.{Exact, places, none, begun, grown, followed, exactly, Short}
+use Rattle.rto_claims.specs.Calls.{Call, measure, called, after}
+use Rattle.rto_claims.specs.Exact.{Exact, places, none, begun, grown, followed, exactly, Short}
 
 -- ---- fractions
 

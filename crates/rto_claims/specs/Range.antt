@@ -5,9 +5,9 @@ use mathlib.Core.Bool.{false}
 use mathlib.Core.List.{List}
 use lib.Ieee.{Float, nan, inf, fin, up, down, binary64, mul}
 use Rattle.limits.specs.Limits.{settingMax}
 use Rattle.rto.specs.declared.RtoManager.{RtoManager}
 use Rattle.rto.specs.Rto.{f64, gap, weighed, sampled, fourTimes, fresh}
-use Rattle.rto.specs.Calls.{Accepted, Call, after}
+use Rattle.rto_claims.specs.Calls.{Accepted, Call, after}
 
 -- x is finite, not negative (nor -0), and at most b
 abbrev pub AtMost : Float → ℕ → Type 0

@@ -4,9 +4,9 @@ use Prim.Native.Nat.{ℕ, _+_, _*_, _^_, _≤_}
 use mathlib.Core.Bool.{cond, false}
 use mathlib.Core.List.{List, [], _∷_}
 use lib.Ieee.Exact.{HasValue}
 use Rattle.rto.specs.declared.RtoManager.{RtoManager}
 use Rattle.rto.specs.Rto.{gap, countsFirst, fresh}
-use Rattle.rto.specs.Calls.{Call, measure, get, reset, set, called, after}
+use Rattle.rto_claims.specs.Calls.{Call, measure, get, reset, set, called, after}
 
 -- the exact rttvar, and how many measurements came after the first
 pub record Exact : Type 0 where

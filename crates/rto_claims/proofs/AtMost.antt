@@ -11,9 +11,9 @@ use lib.Ieee.Back.{round-whole}
 use lib.Ieee.Exact.{HasValue, odd-sign}
 use lib.Ieee.Fits.{down-pos, and-l, round-is}
 use lib.Ieee.Order.{drop, kept, round-mono}
 use Rattle.rto.specs.Rto.{f64}
-use Rattle.rto.specs.Range.{AtMost}
-use Rattle.rto.proofs.Float.{whole, plain, mul-at, add-at, div-at}
+use Rattle.rto_claims.specs.Range.{AtMost}
+use Rattle.rto_claims.proofs.Float.{whole, plain, mul-at, add-at, div-at}
 
 -- ---- a rounded fraction
 or-split : (a b : Bool) → T (a || b) → T a ⊎ T b

@@ -10,13 +10,13 @@ use lib.Ieee.{Float, up, down, binary64, mul, toUnsigned}
 use lib.Ieee.Exact.{HasValue}
 use lib.Ieee.Fits.{down-pos}
 use lib.Ieee.Nearest.{div-same}
 use Rattle.rto.specs.Rto.{f64, gap, fourTimes, clamp, fresh}
-use Rattle.rto.specs.Calls.{measure, called, after}
-use Rattle.rto.specs.Exact.{places, none, followed, exactly}
-use Rattle.rto.specs.Rfc.{RfcRttvar, RfcSrtt, RfcRto}
-use Rattle.rto.proofs.Float.{whole, plain, mul-at, dyadic}
-use Rattle.rto.proofs.claims.Runs.{quadruple, from-fresh, measured-sample}
-use Rattle.rto.proofs.claims.Exact.{Held, blank, begins, kept, written}
+use Rattle.rto_claims.specs.Calls.{measure, called, after}
+use Rattle.rto_claims.specs.Exact.{places, none, followed, exactly}
+use Rattle.rto_claims.specs.Rfc.{RfcRttvar, RfcSrtt, RfcRto}
+use Rattle.rto_claims.proofs.Float.{whole, plain, mul-at, dyadic}
+use Rattle.rto_claims.proofs.Runs.{quadruple, from-fresh, measured-sample}
+use Rattle.rto_claims.proofs.Exact.{Held, blank, begins, kept, written}
 
 -- ---- the recurrence
 scaled : (n d g p q : ℕ) → g ≡ d → q ≡ p * 4 → (3 * n + d * p) * (4 * p * 4) ≡ (3 * n * 4 + 1 * g * (4 * p)) * q

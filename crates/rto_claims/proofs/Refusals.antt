@@ -1,12 +1,12 @@
 -- A refused answer carries no state, so the outcome has the old one. Assumes nothing.
 use mathlib.Core.Path.{_≡_, refl}
 use Rattle.rto.specs.declared.RtoManager.{RtoManager}
 use Rattle.rto.specs.declared.Measured.{Measured}
 use Rattle.rto.specs.declared.Measured.the-variants.{Srtt, Refused as Measured-Refused}
 use Rattle.rto.specs.declared.Set.{Set}
 use Rattle.rto.specs.declared.Set.the-variants.{Kept, Refused as Set-Refused}
 use Rattle.rto.specs.Rto.{measuredOf, setOf}
-use Rattle.rto.specs.Calls.{measure, get, reset, set, Outcome, refused, ofMeasured, ofSet, RefusedKeeps}
+use Rattle.rto_claims.specs.Calls.{measure, get, reset, set, Outcome, refused, ofMeasured, ofSet, RefusedKeeps}
 
 -- an outcome that is done, or gives its number only
 abbrev Keeps : RtoManager → Outcome → Type 0
