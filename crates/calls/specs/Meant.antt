@@ -1,0 +1,121 @@
+-- Which of the model's calls a value is, and which of its answers; and what the code does of any state at all.
+use mathlib.Core.Bool.{Bool, true, false}
+use Rattle.limits.specs.Limits.{Room}
+use Rattle.model.specs.State.{Sender, Out}
+use Rattle.model.specs.Calls as Model
+use Rattle.model.specs.Calls.{step, told}
+use Rattle.outbound_send.specs.Lean.{leanStart, leanSend}
+use Rattle.outbound_expiry.specs.Lean.{leanExpire, leanExpireTail, leanAbandon}
+use Rattle.calls.specs.declared.Query.{Query}
+use Rattle.calls.specs.declared.Call.{Call}
+use Rattle.calls.specs.declared.Answer.{Answer}
+
+-- ---- calls
+
+abbrev pub asked : Query → Model.Query
+asked (Query.Get t) = Model.Get t
+asked (Query.IsAbandoned t) = Model.IsAbandoned t
+asked Query.PeekPending = Model.PeekPending
+asked Query.NextMessage = Model.NextMessage
+asked Query.NextTsn = Model.NextTsn
+asked Query.PendingLength = Model.PendingLength
+asked Query.PendingBytes = Model.PendingBytes
+asked Query.InflightLength = Model.InflightLength
+asked Query.InflightBytes = Model.InflightBytes
+asked Query.EarliestOutstanding = Model.EarliestOutstanding
+asked (Query.PendingContainsStream id) = Model.PendingContainsStream id
+asked (Query.ContainsStream id) = Model.ContainsStream id
+asked (Query.BufferedAmount id) = Model.BufferedAmount id
+asked (Query.LowThreshold id) = Model.LowThreshold id
+asked (Query.HighThreshold id) = Model.HighThreshold id
+asked (Query.Statistics id) = Model.Statistics id
+
+abbrev pub meant : Call → Model.Call
+meant (Call.Open id m) = Model.Open id m
+meant (Call.SetReliability id u k v) = Model.SetReliability id u k v
+meant (Call.SetLow id x) = Model.SetLow id x
+meant (Call.SetHigh id x) = Model.SetHigh id x
+meant (Call.Write id p o l) = Model.Write id p o l
+meant (Call.Release id r) = Model.Release id r
+meant (Call.StartLifetimes now) = Model.StartLifetimes now
+meant (Call.Send now) = Model.Send now
+meant (Call.ExpirePending now) = Model.ExpirePending now
+meant (Call.ExpirePendingTail now) = Model.ExpirePendingTail now
+meant (Call.Abandon t) = Model.Abandon t
+meant (Call.Acknowledge t) = Model.Acknowledge t
+meant (Call.Pop t) = Model.Pop t
+meant Call.MarkAll = Model.MarkAll
+meant (Call.Ask q) = Model.Ask (asked q)
+
+-- ---- answers
+
+abbrev pub said : Answer → Model.Answer
+said (Answer.ToDo a) = Model.toDo a
+said (Answer.ToWrite a) = Model.toWrite a
+said (Answer.ToRelease a) = Model.toRelease a
+said (Answer.ToSend a) = Model.toSend a
+said (Answer.ToExpire a) = Model.toExpire a
+said (Answer.ToExpireTail a) = Model.toExpireTail a
+said (Answer.ToAbandon a) = Model.toAbandon a
+said (Answer.ToFind a) = Model.toFind a
+said (Answer.ToSeek a) = Model.toSeek a
+said (Answer.ToMeasure a) = Model.toMeasure a
+said (Answer.ToCount a) = Model.toCount a
+said (Answer.Number x) = Model.number x
+said (Answer.YesNo b) = Model.yesNo b
+
+-- ---- of any state at all
+
+-- what the code does: in five calls less than the model
+abbrev pub lean : Room → Call → Sender → Out Model.Answer
+lean room (Call.Open id m) s = step room (Model.Open id m) s
+lean room (Call.SetReliability id u k v) s = step room (Model.SetReliability id u k v) s
+lean room (Call.SetLow id x) s = step room (Model.SetLow id x) s
+lean room (Call.SetHigh id x) s = step room (Model.SetHigh id x) s
+lean room (Call.Write id p o l) s = step room (Model.Write id p o l) s
+lean room (Call.Release id r) s = step room (Model.Release id r) s
+lean room (Call.StartLifetimes now) s = told Model.toDo (leanStart now s)
+lean room (Call.Send now) s = told Model.toSend (leanSend room now s)
+lean room (Call.ExpirePending now) s = told Model.toExpire (leanExpire now s)
+lean room (Call.ExpirePendingTail now) s = told Model.toExpireTail (leanExpireTail room now s)
+lean room (Call.Abandon t) s = told Model.toAbandon (leanAbandon room t s)
+lean room (Call.Acknowledge t) s = step room (Model.Acknowledge t) s
+lean room (Call.Pop t) s = step room (Model.Pop t) s
+lean room Call.MarkAll s = step room Model.MarkAll s
+lean room (Call.Ask q) s = step room (Model.Ask (asked q)) s
+
+-- the two questions whose answers are kept, and are sums where they were
+abbrev pub asksSum : Query → Bool
+asksSum (Query.Get t) = false
+asksSum (Query.IsAbandoned t) = false
+asksSum Query.PeekPending = false
+asksSum Query.NextMessage = false
+asksSum Query.NextTsn = false
+asksSum Query.PendingLength = false
+asksSum Query.PendingBytes = true
+asksSum Query.InflightLength = false
+asksSum Query.InflightBytes = true
+asksSum Query.EarliestOutstanding = false
+asksSum (Query.PendingContainsStream id) = false
+asksSum (Query.ContainsStream id) = false
+asksSum (Query.BufferedAmount id) = false
+asksSum (Query.LowThreshold id) = false
+asksSum (Query.HighThreshold id) = false
+asksSum (Query.Statistics id) = false
+
+abbrev pub sums : Call → Bool
+sums (Call.Open id m) = false
+sums (Call.SetReliability id u k v) = false
+sums (Call.SetLow id x) = false
+sums (Call.SetHigh id x) = false
+sums (Call.Write id p o l) = false
+sums (Call.Release id r) = false
+sums (Call.StartLifetimes now) = false
+sums (Call.Send now) = false
+sums (Call.ExpirePending now) = false
+sums (Call.ExpirePendingTail now) = false
+sums (Call.Abandon t) = false
+sums (Call.Acknowledge t) = false
+sums (Call.Pop t) = false
+sums Call.MarkAll = false
+sums (Call.Ask q) = asksSum q

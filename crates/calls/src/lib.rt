@@ -1,0 +1,348 @@
+// Every call of the sender as a value, and one function that takes any of them: what a script or a list of calls is made of. Only the list
+// of expired TSNs, for which a list is lent, stays a call of its own. `meant` of specs/ says which of the model's calls a value is, and
+// `said` which of its answers.
+use model::Abandoned;
+use model::Amount;
+use model::Done;
+use model::Earliest;
+use model::Expired;
+use model::Found;
+use model::Released;
+use model::Sent;
+use model::TailExpired;
+use model::Written;
+use sender_head::Head;
+ghost use mathlib.Core.Path.{_≡_};
+ghost use mathlib.Core.Bool.{true};
+ghost use Rattle.model.specs.Calls.{answer, step};
+ghost use Rattle.outbound_queue.specs.Outbound.{Does};
+ghost use Rattle.sender_head.specs.Whole.{roomIn, senderOf, Counted};
+ghost use Rattle.calls.specs.Meant.{asked, meant, said, lean, asksSum, sums};
+
+// What changes nothing.
+pub enum Query {
+    Get { tsn: u32 },
+    IsAbandoned { tsn: u32 },
+    PeekPending,
+    NextMessage,
+    NextTsn,
+    PendingLength,
+    PendingBytes,
+    InflightLength,
+    InflightBytes,
+    EarliestOutstanding,
+    PendingContainsStream { identifier: u16 },
+    ContainsStream { identifier: u16 },
+    BufferedAmount { identifier: u16 },
+    LowThreshold { identifier: u16 },
+    HighThreshold { identifier: u16 },
+    Statistics { identifier: u16 },
+}
+
+pub enum Call {
+    Open {
+        identifier: u16,
+        maximum: u32,
+    },
+    SetReliability {
+        identifier: u16,
+        unordered: bool,
+        kind: u8,
+        value: u32,
+    },
+    SetLow {
+        identifier: u16,
+        threshold: u64,
+    },
+    SetHigh {
+        identifier: u16,
+        threshold: u64,
+    },
+    Write {
+        identifier: u16,
+        protocol: u32,
+        offset: u64,
+        length: u64,
+    },
+    Release {
+        identifier: u16,
+        released: i64,
+    },
+    StartLifetimes {
+        clock: u64,
+    },
+    Send {
+        clock: u64,
+    },
+    ExpirePending {
+        clock: u64,
+    },
+    ExpirePendingTail {
+        clock: u64,
+    },
+    Abandon {
+        tsn: u32,
+    },
+    Acknowledge {
+        tsn: u32,
+    },
+    Pop {
+        tsn: u32,
+    },
+    MarkAll,
+    Ask(Query),
+}
+
+// What a call answers.
+pub enum Answer {
+    ToDo(Done),
+    ToWrite(Written),
+    ToRelease(Released),
+    ToSend(Sent),
+    ToExpire(Expired),
+    ToExpireTail(TailExpired),
+    ToAbandon(Abandoned),
+    ToFind(Found),
+    ToSeek(Earliest),
+    ToMeasure(Amount),
+    ToCount(model::Counted),
+    Number(u64),
+    YesNo(bool),
+}
+
+pub struct Stepped {
+    pub head: Head,
+    pub answer: Answer,
+}
+
+// Of every head and every cells; the two sums of bytes where they are kept right (`Counted`).
+pub fn ask(h: Head, cells: &[u64], query: Query) -> Answer
+    ensures { λ r. ⌜ ((asksSum query ≡ true → Counted h (now (cells .entry))) → said r ≡ answer (asked query) (senderOf h (now (cells .entry)))) ⌝ }
+{
+    match query {
+        Query::Get { tsn } => {
+            let found = sender_asks::get(h, cells, tsn);
+            Answer::ToFind(found)
+        }
+        Query::IsAbandoned { tsn } => {
+            let yes = sender_asks::is_abandoned(h, cells, tsn);
+            Answer::YesNo(yes)
+        }
+        Query::PeekPending => {
+            let found = sender_asks::peek_pending(h, cells);
+            Answer::ToFind(found)
+        }
+        Query::NextMessage => {
+            let number = sender_asks::next_message(h);
+            Answer::Number(number)
+        }
+        Query::NextTsn => {
+            let tsn = sender_asks::next_tsn(h, cells);
+            Answer::Number(tsn as u64)
+        }
+        Query::PendingLength => {
+            let length = sender_asks::pending_length(h, cells);
+            Answer::Number(length as u64)
+        }
+        Query::PendingBytes => {
+            let bytes = sender_asks::pending_bytes(h);
+            Answer::Number(bytes)
+        }
+        Query::InflightLength => {
+            let length = sender_asks::inflight_length(h, cells);
+            Answer::Number(length as u64)
+        }
+        Query::InflightBytes => {
+            let bytes = sender_asks::inflight_bytes(h);
+            Answer::Number(bytes)
+        }
+        Query::EarliestOutstanding => {
+            let earliest = sender_asks::earliest_outstanding(h, cells);
+            Answer::ToSeek(earliest)
+        }
+        Query::PendingContainsStream { identifier } => {
+            let yes = sender_asks::pending_contains_stream(h, cells, identifier);
+            Answer::YesNo(yes)
+        }
+        Query::ContainsStream { identifier } => {
+            let yes = sender_asks::contains_stream(h, cells, identifier);
+            Answer::YesNo(yes)
+        }
+        Query::BufferedAmount { identifier } => {
+            let amount = sender_streams::buffered_amount(h, cells, identifier);
+            Answer::ToMeasure(amount)
+        }
+        Query::LowThreshold { identifier } => {
+            let amount = sender_streams::low_threshold(h, cells, identifier);
+            Answer::ToMeasure(amount)
+        }
+        Query::HighThreshold { identifier } => {
+            let amount = sender_streams::high_threshold(h, cells, identifier);
+            Answer::ToMeasure(amount)
+        }
+        Query::Statistics { identifier } => {
+            let counted = sender_streams::statistics(h, cells, identifier);
+            Answer::ToCount(counted)
+        }
+    }
+}
+
+// Of every head and every cells what the code does there, and the model's call in every `Good` state.
+pub fn step(h: Head, cells: &mut [u64], call: Call) -> Stepped
+    ensures { λ r. ⌜ ((sums call ≡ true → Counted h (now (cells .entry))) → Does (roomIn (now (cells .entry))) (senderOf h (now (cells .entry))) (record { after = senderOf (r .head) (now (cells .exit)); says = said (r .answer) }) (lean (roomIn (now (cells .entry))) call (senderOf h (now (cells .entry)))) (step (roomIn (now (cells .entry))) (meant call) (senderOf h (now (cells .entry))))) × (Counted h (now (cells .entry)) → Counted (r .head) (now (cells .exit))) ⌝ }
+{
+    match call {
+        Call::Open {
+            identifier,
+            maximum,
+        } => {
+            let made = sender_streams::open_stream(h, cells, identifier, maximum);
+            let head = made.head;
+            let answer = made.answer;
+            Stepped {
+                head: head,
+                answer: Answer::ToDo(answer),
+            }
+        }
+        Call::SetReliability {
+            identifier,
+            unordered,
+            kind,
+            value,
+        } => {
+            let answer = sender_streams::set_reliability(
+                h,
+                cells,
+                identifier,
+                unordered,
+                kind,
+                value,
+            );
+            Stepped {
+                head: h,
+                answer: Answer::ToDo(answer),
+            }
+        }
+        Call::SetLow {
+            identifier,
+            threshold,
+        } => {
+            let answer = sender_streams::set_low_threshold(h, cells, identifier, threshold);
+            Stepped {
+                head: h,
+                answer: Answer::ToDo(answer),
+            }
+        }
+        Call::SetHigh {
+            identifier,
+            threshold,
+        } => {
+            let answer = sender_streams::set_high_threshold(h, cells, identifier, threshold);
+            Stepped {
+                head: h,
+                answer: Answer::ToDo(answer),
+            }
+        }
+        Call::Write {
+            identifier,
+            protocol,
+            offset,
+            length,
+        } => {
+            let made = sender_write::write(h, cells, identifier, protocol, offset, length);
+            let head = made.head;
+            let answer = made.answer;
+            Stepped {
+                head: head,
+                answer: Answer::ToWrite(answer),
+            }
+        }
+        Call::Release {
+            identifier,
+            released,
+        } => {
+            let answer = sender_streams::release(h, cells, identifier, released);
+            Stepped {
+                head: h,
+                answer: Answer::ToRelease(answer),
+            }
+        }
+        Call::StartLifetimes { clock } => {
+            let made = sender_queue::start_lifetimes(h, cells, clock);
+            let head = made.head;
+            let answer = made.answer;
+            Stepped {
+                head: head,
+                answer: Answer::ToDo(answer),
+            }
+        }
+        Call::Send { clock } => {
+            let made = sender_queue::send(h, cells, clock);
+            let head = made.head;
+            let answer = made.answer;
+            Stepped {
+                head: head,
+                answer: Answer::ToSend(answer),
+            }
+        }
+        Call::ExpirePending { clock } => {
+            let made = sender_expiry::expire_pending(h, cells, clock);
+            let head = made.head;
+            let answer = made.answer;
+            Stepped {
+                head: head,
+                answer: Answer::ToExpire(answer),
+            }
+        }
+        Call::ExpirePendingTail { clock } => {
+            let made = sender_queue::expire_pending_tail(h, cells, clock);
+            let head = made.head;
+            let answer = made.answer;
+            Stepped {
+                head: head,
+                answer: Answer::ToExpireTail(answer),
+            }
+        }
+        Call::Abandon { tsn } => {
+            let made = sender_queue::abandon(h, cells, tsn);
+            let head = made.head;
+            let answer = made.answer;
+            Stepped {
+                head: head,
+                answer: Answer::ToAbandon(answer),
+            }
+        }
+        Call::Acknowledge { tsn } => {
+            let made = sender_queue::acknowledge(h, cells, tsn);
+            let head = made.head;
+            let answer = made.bytes;
+            Stepped {
+                head: head,
+                answer: Answer::Number(answer as u64),
+            }
+        }
+        Call::Pop { tsn } => {
+            let made = sender_queue::pop(h, cells, tsn);
+            let head = made.head;
+            let answer = made.front;
+            Stepped {
+                head: head,
+                answer: Answer::ToFind(answer),
+            }
+        }
+        Call::MarkAll => {
+            sender_queue::mark_all(h, cells);
+            Stepped {
+                head: h,
+                answer: Answer::ToDo(Done::Done),
+            }
+        }
+        Call::Ask(query) => {
+            let answer = ask(h, cells, query);
+            Stepped {
+                head: h,
+                answer: answer,
+            }
+        }
+    }
+}

@@ -1,0 +1,77 @@
+-- By the row, of the words that were read.
+use mathlib.Core.Path.{_≡_, ap, ap₂, subst, _∙_}
+use Prim.Native.Nat.{ℕ, _-_, _<_}
+use native.Mathlib.Omega.{arith}
+use denote.Ref.{now}
+use Rattle.model.specs.Calls.{Ask, ExpiredInflight}
+use Rattle.coded_calls.specs.Coded.{question}
+use Rattle.coded_calls.specs.Picked.{all-words, is-change, is-question, is-listing}
+use borrow.Author.Needs.{needs}
+use Rattle.coded_calls.proofs.read.Statement.{statement}
+use Rattle.coded_calls.proofs.read.Tie as tie
+
+word-requires : tie.Need-word-requires
+word-requires c κs = search needs
+
+word-requires-2 : tie.Need-word-requires-2
+word-requires-2 c κs = search needs
+
+word-requires-3 : tie.Need-word-requires-3
+word-requires-3 c κs = search needs
+
+word-requires-4 : tie.Need-word-requires-4
+word-requires-4 c κs = search needs
+
+word-requires-5 : tie.Need-word-requires-5
+word-requires-5 c κs = search needs
+
+change-requires : tie.Need-change-requires
+change-requires c κs = search needs
+
+returns : tie.Need-returns
+returns c =
+    let w = now (c .before .before .before .before .before .before .before .before .args .words) in
+    let h = ap (λ (row : ℕ). row) (c .before .before .before .before .before .before .word .ensures) in
+    is-change w (subst (λ (k : ℕ). k < 14) h (c .before .before .before .if1 .taken)) (c .change .ensures ∙ all-words (c .before .before .before .before .before .before .word .ensures) (c .before .before .before .before .before .word2 .ensures) (c .before .before .before .before .word3 .ensures) (c .before .before .word4 .ensures) (c .before .word5 .ensures))
+
+question-requires : tie.Need-question-requires
+question-requires c κs = search needs
+
+returns-2 : tie.Need-returns-2
+returns-2 c =
+    let w = now (c .before .before .before .before .before .before .before .args .words) in
+    let e = c .before .before .before .before .before .word .ensures in
+    let f = c .before .before .before .before .word2 .ensures in
+    is-question w (omega (arith, e, c .before .before .if1 .left)) (omega (arith, e, c .before .if2 .taken)) (c .question .ensures ∙ ap₂ (λ (k a : ℕ). question (k - 14) a) e f)
+
+returns-3 : tie.Need-returns-3
+returns-3 c =
+    let w = now (c .before .before .before .before .before .before .before .args .words) in
+    let e = c .before .before .before .before .before .word .ensures in
+    let f = c .before .before .before .before .word2 .ensures in
+    let g = c .before .before .before .word3 .ensures in
+    ap (λ (a : ℕ). Ask (ExpiredInflight a (c .before .before .before .word3 .result))) f ∙ is-listing w (c .before .before .before .word3 .result) (omega (arith, e, c .before .if2 .left)) (omega (arith, g, c .if3 .taken))
+
+returns-4 : tie.Need-returns-4
+returns-4 c =
+    let w = now (c .before .before .before .before .before .before .before .args .words) in
+    let e = c .before .before .before .before .before .word .ensures in
+    let f = c .before .before .before .before .word2 .ensures in
+    let g = c .before .before .before .word3 .ensures in
+    ap (λ (a : ℕ). Ask (ExpiredInflight a 256)) f ∙ is-listing w 256 (omega (arith, e, c .before .if2 .left)) (omega (arith, g, c .if3 .left))
+
+pub read-spec : {M : Type 1} → statement M
+read-spec =
+    tie.close
+    (tie.spec
+    word-requires
+    word-requires-2
+    word-requires-3
+    word-requires-4
+    word-requires-5
+    change-requires
+    returns
+    question-requires
+    returns-2
+    returns-3
+    returns-4)

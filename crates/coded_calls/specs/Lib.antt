@@ -1,0 +1,3 @@
+-- Coded: the table of coded calls. Picked: one row of it.
+pub mod Coded
+pub mod Picked

@@ -1,0 +1,2 @@
+-- Tapes: what was written, and what comes behind it.
+pub mod Tapes
