@@ -14,7 +14,7 @@ use Rattle.script.specs.Meaning as Meaning
 abbrev pub startOf : Line
 startOf =
     record {
-      words = 0; inside = false; comment = false; «open» = Token.Other;
+      words = 0; inside = false; comment = false; current = Token.Other;
       name = Token.Other; first = Token.Other; second = Token.Other; third = Token.Other; fourth = Token.Other;
     }
 
@@ -35,28 +35,28 @@ storedOf l comment =
       words = nextOf (l .words);
       inside = false;
       comment = comment;
-      «open» = Token.Other;
-      name = placedOf (l .words) 0 (l .«open») (l .name);
-      first = placedOf (l .words) 1 (l .«open») (l .first);
-      second = placedOf (l .words) 2 (l .«open») (l .second);
-      third = placedOf (l .words) 3 (l .«open») (l .third);
-      fourth = placedOf (l .words) 4 (l .«open») (l .fourth);
+      current = Token.Other;
+      name = placedOf (l .words) 0 (l .current) (l .name);
+      first = placedOf (l .words) 1 (l .current) (l .first);
+      second = placedOf (l .words) 2 (l .current) (l .second);
+      third = placedOf (l .words) 3 (l .current) (l .third);
+      fourth = placedOf (l .words) 4 (l .current) (l .fourth);
     }
 
 -- the same words, with another that is open
 unfoldable pub markedOf : Line → (inside comment : Bool) → Token → Line
 markedOf l inside comment k =
     record {
-      words = l .words; inside = inside; comment = comment; «open» = k;
+      words = l .words; inside = inside; comment = comment; current = k;
       name = l .name; first = l .first; second = l .second; third = l .third; fourth = l .fourth;
     }
 
 unfoldable pub endedOf : Line → Bool → Line
-endedOf l comment = cond (l .inside) (storedOf l comment) (markedOf l false comment (l .«open»))
+endedOf l comment = cond (l .inside) (storedOf l comment) (markedOf l false comment (l .current))
 
 unfoldable pub longerOf : Line → ℕ → Line
 longerOf l b =
-    cond (l .inside) (markedOf l true false (growOf (l .«open») b)) (markedOf l true false (beginOf b))
+    cond (l .inside) (markedOf l true false (growOf (l .current) b)) (markedOf l true false (beginOf b))
 
 -- one byte more: nothing in a comment, the end of a word, or a word's byte
 unfoldable pub feedOf : Line → ℕ → Line

@@ -6,13 +6,13 @@ use words::Token;
 ghost use mathlib.Core.Path.{_≡_};
 ghost use Rattle.script.specs.Lines.{startOf, blank, placedOf, nextOf, storedOf, endedOf, markedOf, longerOf, feedOf, finishOf};
 
-// `words` of them are whole, six where there are more; `inside` says that `open` is one more, not ended yet, and `comment` that the rest
+// `words` of them are whole, six where there are more; `inside` says that `current` is one more, not ended yet, and `comment` that the rest
 // of the line is none. The first word is the name, the others are its arguments.
 pub struct Line {
     pub words: u8,
     pub inside: bool,
     pub comment: bool,
-    pub open: Token,
+    pub current: Token,
     pub name: Token,
     pub first: Token,
     pub second: Token,
@@ -28,7 +28,7 @@ pub fn start() -> Line
         words: 0,
         inside: false,
         comment: false,
-        open: Token::Other,
+        current: Token::Other,
         name: Token::Other,
         first: Token::Other,
         second: Token::Other,
@@ -50,12 +50,12 @@ fn is_blank(byte: u8) -> bool
     byte == 13
 }
 
-// The open word, where this is its place, and else what stands there.
-fn placed(words: u8, place: u8, open: Token, old: Token) -> Token
-    ensures { λ r. ⌜ r ≡ placedOf words place open old ⌝ }
+// The current word, where this is its place, and else what stands there.
+fn placed(words: u8, place: u8, current: Token, old: Token) -> Token
+    ensures { λ r. ⌜ r ≡ placedOf words place current old ⌝ }
 {
     if words == place {
-        return open;
+        return current;
     }
     old
 }
@@ -69,12 +69,12 @@ fn next(words: u8) -> u8
     6
 }
 
-// The open word is whole.
+// The current word is whole.
 fn stored(line: Line, comment: bool) -> Line
     ensures { λ r. ⌜ r ≡ storedOf line comment ⌝ }
 {
     let words = line.words;
-    let open = line.open;
+    let current = line.current;
     let name = line.name;
     let first = line.first;
     let second = line.second;
@@ -84,12 +84,12 @@ fn stored(line: Line, comment: bool) -> Line
         words: next(words),
         inside: false,
         comment: comment,
-        open: Token::Other,
-        name: placed(words, 0, open, name),
-        first: placed(words, 1, open, first),
-        second: placed(words, 2, open, second),
-        third: placed(words, 3, open, third),
-        fourth: placed(words, 4, open, fourth),
+        current: Token::Other,
+        name: placed(words, 0, current, name),
+        first: placed(words, 1, current, first),
+        second: placed(words, 2, current, second),
+        third: placed(words, 3, current, third),
+        fourth: placed(words, 4, current, fourth),
     }
 }
 
@@ -99,13 +99,13 @@ fn ended(line: Line, comment: bool) -> Line
     if line.inside {
         return stored(line, comment);
     }
-    let open = line.open;
-    marked(line, false, comment, open)
+    let current = line.current;
+    marked(line, false, comment, current)
 }
 
-// The same words, with another that is open.
-fn marked(line: Line, inside: bool, comment: bool, open: Token) -> Line
-    ensures { λ r. ⌜ r ≡ markedOf line inside comment open ⌝ }
+// The same words, with another that is current.
+fn marked(line: Line, inside: bool, comment: bool, current: Token) -> Line
+    ensures { λ r. ⌜ r ≡ markedOf line inside comment current ⌝ }
 {
     let name = line.name;
     let first = line.first;
@@ -116,7 +116,7 @@ fn marked(line: Line, inside: bool, comment: bool, open: Token) -> Line
         words: line.words,
         inside: inside,
         comment: comment,
-        open: open,
+        current: current,
         name: name,
         first: first,
         second: second,
@@ -129,8 +129,8 @@ fn longer(line: Line, byte: u8) -> Line
     ensures { λ r. ⌜ r ≡ longerOf line byte ⌝ }
 {
     if line.inside {
-        let open = line.open;
-        let grown = words::grow(open, byte);
+        let current = line.current;
+        let grown = words::grow(current, byte);
         return marked(line, true, false, grown);
     }
     let begun = words::begin(byte);
