@@ -140,14 +140,17 @@ fn protocol(out: &mut [u8], at: usize, n: u32) -> usize {
 }
 
 // Kinds that are neither Rexmit nor Timed are the one kind Reliable.
+fn kind_digit(kind: u8) -> u8 {
+    match kind {
+        1 => b'1',
+        2 => b'2',
+        _ => b'0',
+    }
+}
+
 fn reliability(out: &mut [u8], at: usize, kept: Reliability) -> usize {
     let place = text(out, at, b" rel=");
-    let kind = match kept.kind {
-        1 => 1,
-        2 => 2,
-        _ => 0,
-    };
-    let value = decimal(out, place, kind);
+    let value = byte(out, place, kind_digit(kept.kind));
     number(out, value, b":", kept.value as u64)
 }
 
@@ -160,48 +163,64 @@ fn payload(out: &mut [u8], at: usize, offset: u64, length: u32) -> usize {
     number(out, place, b" len=", length as u64)
 }
 
-fn message_of(out: &mut [u8], at: usize, tsn: u32, chunk: Chunk) -> usize {
+fn head_of(out: &mut [u8], at: usize, tsn: u32, chunk: Chunk) -> usize {
+    let p1 = number(out, at, b"tsn=", tsn as u64);
+    let p2 = number(out, p1, b" sid=", chunk.message.stream as u64);
+    let p3 = number(out, p2, b" ssn=", chunk.message.ssn as u64);
+    number(out, p3, b" flags=", flags(chunk) as u64)
+}
+
+fn message_of(out: &mut [u8], at: usize, chunk: Chunk) -> usize {
     let message = chunk.message;
     let kept = message.reliability;
     let deadline = message.deadline;
-    let p1 = number(out, at, b"tsn=", tsn as u64);
-    let p2 = number(out, p1, b" sid=", message.stream as u64);
-    let p3 = number(out, p2, b" ssn=", message.ssn as u64);
-    let p4 = number(out, p3, b" flags=", flags(chunk) as u64);
-    let p5 = protocol(out, p4, message.protocol);
-    let p6 = payload(out, p5, chunk.offset, chunk.length);
-    let p7 = number(out, p6, b" msg=", message.number);
-    let p8 = reliability(out, p7, kept);
-    moment(out, p8, b" deadline=", deadline)
+    let p1 = protocol(out, at, message.protocol);
+    let p2 = payload(out, p1, chunk.offset, chunk.length);
+    let p3 = number(out, p2, b" msg=", message.number);
+    let p4 = reliability(out, p3, kept);
+    moment(out, p4, b" deadline=", deadline)
+}
+
+fn sending_of(out: &mut [u8], at: usize, chunk: Chunk) -> usize {
+    let since = chunk.since;
+    let p1 = moment(out, at, b" since=", since);
+    let p2 = number(out, p1, b" nsent=", chunk.nsent as u64);
+    let p3 = flag(out, p2, b" acked=", chunk.acked);
+    let p4 = flag(out, p3, b" aband=", chunk.abandoned);
+    let p5 = flag(out, p4, b" retx=", chunk.retransmit);
+    text(out, p5, b" miss=0\n")
 }
 
 pub fn chunk(out: &mut [u8], at: usize, tsn: u32, chunk: Chunk) -> usize {
-    let since = chunk.since;
-    let p1 = message_of(out, at, tsn, chunk);
-    let p2 = moment(out, p1, b" since=", since);
-    let p3 = number(out, p2, b" nsent=", chunk.nsent as u64);
-    let p4 = flag(out, p3, b" acked=", chunk.acked);
-    let p5 = flag(out, p4, b" aband=", chunk.abandoned);
-    let p6 = flag(out, p5, b" retx=", chunk.retransmit);
-    text(out, p6, b" miss=0\n")
+    let p1 = head_of(out, at, tsn, chunk);
+    let p2 = message_of(out, p1, chunk);
+    sending_of(out, p2, chunk)
 }
 
 // ---- a stream
 
-pub fn stream(out: &mut [u8], at: usize, stream: Stream) -> usize {
+fn settings_of(out: &mut [u8], at: usize, stream: Stream) -> usize {
     let kept = stream.reliability;
-    let sent = stream.statistics;
     let p1 = number(out, at, b"sid=", stream.identifier as u64);
     let p2 = number(out, p1, b" m=", stream.maximum as u64);
     let p3 = number(out, p2, b" ssn=", stream.ssn as u64);
     let p4 = flag(out, p3, b" u=", stream.unordered);
-    let p5 = reliability(out, p4, kept);
-    let p6 = number(out, p5, b" buf=", stream.buffered as u64);
-    let p7 = number(out, p6, b" low=", stream.low);
-    let p8 = number(out, p7, b" high=", stream.high);
-    let p9 = number(out, p8, b" msgs=", sent.messages);
-    let p10 = number(out, p9, b" bytes=", sent.bytes);
-    line(out, p10)
+    reliability(out, p4, kept)
+}
+
+fn amounts_of(out: &mut [u8], at: usize, stream: Stream) -> usize {
+    let sent = stream.statistics;
+    let p1 = number(out, at, b" buf=", stream.buffered as u64);
+    let p2 = number(out, p1, b" low=", stream.low);
+    let p3 = number(out, p2, b" high=", stream.high);
+    let p4 = number(out, p3, b" msgs=", sent.messages);
+    number(out, p4, b" bytes=", sent.bytes)
+}
+
+pub fn stream(out: &mut [u8], at: usize, stream: Stream) -> usize {
+    let p1 = settings_of(out, at, stream);
+    let p2 = amounts_of(out, p1, stream);
+    line(out, p2)
 }
 
 // ---- a timer, and the estimator
@@ -224,14 +243,22 @@ pub fn timer(out: &mut [u8], at: usize, name: &[u8], entry: Entry) -> usize {
     line(out, p5)
 }
 
+fn spread(out: &mut [u8], at: usize, rttvar: f64) -> usize {
+    let place = text(out, at, b" rttvar=");
+    hexadecimal(out, place, bits(rttvar))
+}
+
+fn bounds(out: &mut [u8], at: usize, manager: RtoManager) -> usize {
+    let p1 = number(out, at, b" initial=", manager.rto_initial);
+    let p2 = number(out, p1, b" min=", manager.rto_min);
+    let p3 = number(out, p2, b" max=", manager.rto_max);
+    line(out, p3)
+}
+
 pub fn estimate(out: &mut [u8], at: usize, manager: RtoManager) -> usize {
     let p1 = number(out, at, b"rto=", manager.rto);
     let p2 = number(out, p1, b" srtt=", manager.srtt);
-    let p3 = text(out, p2, b" rttvar=");
-    let p4 = hexadecimal(out, p3, bits(manager.rttvar));
-    let p5 = flag(out, p4, b" no_update=", manager.no_update);
-    let p6 = number(out, p5, b" initial=", manager.rto_initial);
-    let p7 = number(out, p6, b" min=", manager.rto_min);
-    let p8 = number(out, p7, b" max=", manager.rto_max);
-    line(out, p8)
+    let p3 = spread(out, p2, manager.rttvar);
+    let p4 = flag(out, p3, b" no_update=", manager.no_update);
+    bounds(out, p4, manager)
 }

@@ -136,6 +136,9 @@ setCountOf first second = timer first (λ which. middle second (λ count. Comman
 abbrev pub setRtoOf : Token → Token → Command
 setRtoOf first second = long first (λ rto. flag second (λ kept. Command.Estimate (RtoCall.Set rto kept)))
 
+abbrev pub setBufferedOf : Token → Token → Command
+setBufferedOf first second = short first (λ identifier. middle second (λ amount. Command.SetBuffered identifier amount))
+
 unfoldable pub twoOf : ℕ → Token → Token → Command
 twoOf number first second =
     for number (s ∷ e ∷ n ∷ d ∷ e ∷ r ∷ []) (senderOf first second)
@@ -148,7 +151,8 @@ twoOf number first second =
     (for number (t ∷ e ∷ x ∷ p ∷ i ∷ r ∷ e ∷ d ∷ []) (timerExpiredOf first second)
     (for number (s ∷ e ∷ t ∷ c ∷ o ∷ u ∷ n ∷ t ∷ []) (setCountOf first second)
     (for number (s ∷ e ∷ t ∷ r ∷ t ∷ o ∷ []) (setRtoOf first second)
-    Command.Bad)))))))))
+    (for number (s ∷ e ∷ t ∷ b ∷ u ∷ f ∷ []) (setBufferedOf first second)
+    Command.Bad))))))))))
 
 -- ---- three arguments
 

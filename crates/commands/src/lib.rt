@@ -18,7 +18,7 @@ use words::Token;
 ghost use mathlib.Core.Path.{_≡_};
 ghost use Rattle.commands.specs.Table.{partsIn, partsOf, timedOf, streamCallOf, tsnCallOf, longCallOf, aloneOf, oneOf};
 ghost use Rattle.commands.specs.Table.{senderOf, openOf, lowOf, highOf, releasedOf, listWithinOf, setTimerOf, timerExpiredOf};
-ghost use Rattle.commands.specs.Table.{setCountOf, setRtoOf, twoOf, timersOf, newRtoOf, startedOf, restartedOf, threeOf};
+ghost use Rattle.commands.specs.Table.{setCountOf, setRtoOf, setBufferedOf, twoOf, timersOf, newRtoOf, startedOf, restartedOf, threeOf};
 ghost use Rattle.commands.specs.Table.{reliabilityOf, writeOf, fourOf, commandIn, timerCallOf, shortCallOf, middleCallOf};
 
 // The calls of the timers; `SetCount` is the script's own.
@@ -83,7 +83,7 @@ pub enum RtoCall {
     Get,
 }
 
-// What a line is. `Blank` has no word and gets no answer; `Bad` is no call. `List` asks for the expired TSNs; `ListWithin` names the room of that list.
+// What a line is; `SetBuffered` is the script's own. `Blank` has no word and gets no answer; `Bad` is no call. `List` asks for the expired TSNs; `ListWithin` names the room of that list.
 pub enum Command {
     Blank,
     Bad,
@@ -102,6 +102,10 @@ pub enum Command {
     Counts,
     Stream {
         identifier: u16,
+    },
+    SetBuffered {
+        identifier: u16,
+        amount: u32,
     },
     Clock(TimerCall),
     Estimate(RtoCall),
@@ -151,6 +155,7 @@ const TSET: u64 = 0o24_23_05_24;
 const TEXPIRED: u64 = 0o24_05_30_20_11_22_05_04;
 const SETCOUNT: u64 = 0o23_05_24_03_17_25_16_24;
 const SETRTO: u64 = 0o23_05_24_22_24_17;
+const SETBUF: u64 = 0o23_05_24_02_25_06;
 const TIMERS: u64 = 0o24_11_15_05_22_23;
 const TSTART: u64 = 0o24_23_24_01_22_24;
 const TRESTART: u64 = 0o24_22_05_23_24_01_22_24;
@@ -415,6 +420,18 @@ fn set_rto(a: Token, b: Token) -> Command
     Command::Estimate(RtoCall::Set { rto: rto, kept: kept })
 }
 
+fn set_buffered(a: Token, b: Token) -> Command
+    ensures { λ r. ⌜ r ≡ setBufferedOf a b ⌝ }
+{
+    let Short::Is(identifier) = arguments::as_short(a) else {
+        return Command::Bad;
+    };
+    let Middle::Is(amount) = arguments::as_middle(b) else {
+        return Command::Bad;
+    };
+    Command::SetBuffered { identifier: identifier, amount: amount }
+}
+
 fn two(name: u64, a: Token, b: Token) -> Command
     ensures { λ r. ⌜ r ≡ twoOf name a b ⌝ }
 {
@@ -429,6 +446,7 @@ fn two(name: u64, a: Token, b: Token) -> Command
         TEXPIRED => timer_expired(a, b),
         SETCOUNT => set_count(a, b),
         SETRTO => set_rto(a, b),
+        SETBUF => set_buffered(a, b),
         _ => Command::Bad,
     }
 }

@@ -15,6 +15,7 @@ use model::Found;
 use model::Listed;
 use model::Released;
 use model::Sent;
+use model::Stream;
 use model::TailExpired;
 use model::Written;
 use ring::Ring;
@@ -241,6 +242,35 @@ fn stream(h: Head, cells: &[u64], out: &mut [u8], at: usize, identifier: u16) ->
     let place = stream_table::find(h.streams, &cells[0..k], identifier);
     match place {
         Place::At(_, found) => answers::stream(out, at, found),
+        Place::Nothing => answers::refusal(out, at, limits::NOT_OPEN),
+    }
+}
+
+// A poke of the script: the amount alone changes.
+fn with_buffered(old: Stream, amount: u32) -> Stream {
+    let kept = old.reliability;
+    let sent = old.statistics;
+    Stream {
+        identifier: old.identifier,
+        maximum: old.maximum,
+        unordered: old.unordered,
+        reliability: kept,
+        ssn: old.ssn,
+        buffered: amount,
+        low: old.low,
+        high: old.high,
+        statistics: sent,
+    }
+}
+
+fn set_buffered(h: Head, cells: &mut [u64], out: &mut [u8], at: usize, identifier: u16, amount: u32) -> usize {
+    let k = sender_head::table_words(cells);
+    let found = stream_table::find(h.streams, &cells[0..k], identifier);
+    match found {
+        Place::At(place, old) => {
+            stream_table::update(h.streams, &mut cells[0..k], place, with_buffered(old, amount));
+            answers::done(out, at)
+        }
         Place::Nothing => answers::refusal(out, at, limits::NOT_OPEN),
     }
 }
@@ -609,6 +639,9 @@ fn run(world: World, cells: &mut [u64], out: &mut [u8], command: Command) -> Wor
         Command::Counts => answered(world, counts(head, cells, out, at, b"plen=")),
         Command::Stream { identifier } => {
             answered(world, stream(head, cells, out, at, identifier))
+        }
+        Command::SetBuffered { identifier, amount } => {
+            answered(world, set_buffered(head, cells, out, at, identifier, amount))
         }
         Command::Clock(call) => timers_call(world, out, call),
         Command::Estimate(call) => rto_call(world, out, call),

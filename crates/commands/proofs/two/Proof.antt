@@ -37,6 +37,9 @@ set-count-requires c κs = search needs
 set-rto-requires : tie.Need-set-rto-requires
 set-rto-requires c κs = search needs
 
+set-buffered-requires : tie.Need-set-buffered-requires
+set-buffered-requires c κs = search needs
+
 returns : tie.Need-returns
 unfolding twoOf
 returns c = let x = c .before .before .args in c .sender .ensures ∙ ap (λ (n : ℕ). twoOf n (x .a) (x .b)) (sym (c .before .match .keys1))
@@ -79,7 +82,11 @@ returns-10 c = let x = c .before .before .args in c .set-rto .ensures ∙ ap (λ
 
 returns-11 : tie.Need-returns-11
 unfolding twoOf
-returns-11 c = simp (ne-eqb _ _ (c .match .rest .0 .0 .0 .0 .0 .0 .0 .0 .0 .1), ne-eqb _ _ (c .match .rest .0 .0 .0 .0 .0 .0 .0 .0 .1), ne-eqb _ _ (c .match .rest .0 .0 .0 .0 .0 .0 .0 .1), ne-eqb _ _ (c .match .rest .0 .0 .0 .0 .0 .0 .1), ne-eqb _ _ (c .match .rest .0 .0 .0 .0 .0 .1), ne-eqb _ _ (c .match .rest .0 .0 .0 .0 .1), ne-eqb _ _ (c .match .rest .0 .0 .0 .1), ne-eqb _ _ (c .match .rest .0 .0 .1), ne-eqb _ _ (c .match .rest .0 .1), ne-eqb _ _ (c .match .rest .1))
+returns-11 c = let x = c .before .before .args in c .set-buffered .ensures ∙ ap (λ (n : ℕ). twoOf n (x .a) (x .b)) (sym (c .before .match .keys11))
+
+returns-12 : tie.Need-returns-12
+unfolding twoOf
+returns-12 c = simp (ne-eqb _ _ (c .match .rest .0 .0 .0 .0 .0 .0 .0 .0 .0 .0 .1), ne-eqb _ _ (c .match .rest .0 .0 .0 .0 .0 .0 .0 .0 .0 .1), ne-eqb _ _ (c .match .rest .0 .0 .0 .0 .0 .0 .0 .0 .1), ne-eqb _ _ (c .match .rest .0 .0 .0 .0 .0 .0 .0 .1), ne-eqb _ _ (c .match .rest .0 .0 .0 .0 .0 .0 .1), ne-eqb _ _ (c .match .rest .0 .0 .0 .0 .0 .1), ne-eqb _ _ (c .match .rest .0 .0 .0 .0 .1), ne-eqb _ _ (c .match .rest .0 .0 .0 .1), ne-eqb _ _ (c .match .rest .0 .0 .1), ne-eqb _ _ (c .match .rest .0 .1), ne-eqb _ _ (c .match .rest .1))
 
 pub two-spec : {M : Type 1} → statement M
 two-spec =
@@ -95,6 +102,7 @@ two-spec =
     timer-expired-requires
     set-count-requires
     set-rto-requires
+    set-buffered-requires
     returns
     returns-2
     returns-3
@@ -105,4 +113,5 @@ two-spec =
     returns-8
     returns-9
     returns-10
-    returns-11)
+    returns-11
+    returns-12)
