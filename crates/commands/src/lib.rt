@@ -67,19 +67,10 @@ pub enum TimerCall {
 
 // The calls of the estimator.
 pub enum RtoCall {
-    Make {
-        initial: u64,
-        least: u64,
-        most: u64,
-    },
-    Measure {
-        rtt: u64,
-    },
+    Make { initial: u64, least: u64, most: u64 },
+    Measure { rtt: u64 },
     Reset,
-    Set {
-        rto: u64,
-        kept: bool,
-    },
+    Set { rto: u64, kept: bool },
     Get,
 }
 
@@ -119,48 +110,91 @@ pub enum Command {
 // ---- the names: two octal digits a letter
 
 const MARKALL: u64 = 0o15_01_22_13_01_14_14;
+
 const PEEK: u64 = 0o20_05_05_13;
+
 const COUNTS: u64 = 0o03_17_25_16_24_23;
+
 const NEXTMSG: u64 = 0o16_05_30_24_15_23_07;
+
 const NEXTTSN: u64 = 0o16_05_30_24_24_23_16;
+
 const EARLIEST: u64 = 0o05_01_22_14_11_05_23_24;
+
 const TNEXT: u64 = 0o24_16_05_30_24;
+
 const RRESET: u64 = 0o22_22_05_23_05_24;
+
 const GETRTO: u64 = 0o07_05_24_22_24_17;
+
 const STATE: u64 = 0o23_24_01_24_05;
+
 const LIFETIMES: u64 = 0o14_11_06_05_24_11_15_05_23;
+
 const SEND: u64 = 0o23_05_16_04;
+
 const EXPIRE: u64 = 0o05_30_20_11_22_05;
+
 const TAIL: u64 = 0o24_01_11_14;
+
 const EXPIRED: u64 = 0o05_30_20_11_22_05_04;
+
 const MEASURE: u64 = 0o15_05_01_23_25_22_05;
+
 const ABANDON: u64 = 0o01_02_01_16_04_17_16;
+
 const ACK: u64 = 0o01_03_13;
+
 const POP: u64 = 0o20_17_20;
+
 const GET: u64 = 0o07_05_24;
+
 const ISAB: u64 = 0o11_23_01_02;
+
 const HASPEND: u64 = 0o10_01_23_20_05_16_04;
+
 const HAS: u64 = 0o10_01_23;
+
 const STREAM: u64 = 0o23_24_22_05_01_15;
+
 const TSTOP: u64 = 0o24_23_24_17_20;
+
 const TRESET: u64 = 0o24_22_05_23_05_24;
+
 const TSUPPRESS: u64 = 0o24_23_25_20_20_22_05_23_23;
+
 const TGET: u64 = 0o24_07_05_24;
+
 const SENDER: u64 = 0o23_05_16_04_05_22;
+
 const OPEN: u64 = 0o17_20_05_16;
+
 const LOW: u64 = 0o14_17_27;
+
 const HIGH: u64 = 0o10_11_07_10;
+
 const RELEASED: u64 = 0o22_05_14_05_01_23_05_04;
+
 const TSET: u64 = 0o24_23_05_24;
+
 const TEXPIRED: u64 = 0o24_05_30_20_11_22_05_04;
+
 const SETCOUNT: u64 = 0o23_05_24_03_17_25_16_24;
+
 const SETRTO: u64 = 0o23_05_24_22_24_17;
+
 const SETBUF: u64 = 0o23_05_24_02_25_06;
+
 const TIMERS: u64 = 0o24_11_15_05_22_23;
+
 const TSTART: u64 = 0o24_23_24_01_22_24;
+
 const TRESTART: u64 = 0o24_22_05_23_24_01_22_24;
+
 const RTO: u64 = 0o22_24_17;
+
 const REL: u64 = 0o22_05_14;
+
 const WRITE: u64 = 0o27_22_11_24_05;
 
 // ---- no argument
@@ -178,7 +212,11 @@ fn alone(name: u64) -> Command
         TNEXT => Command::Clock(TimerCall::NextTimeout),
         RRESET => Command::Estimate(RtoCall::Reset),
         GETRTO => Command::Estimate(RtoCall::Get),
-        STATE => Command::State { sender: true, timers: true, rto: true },
+        STATE => Command::State {
+            sender: true,
+            timers: true,
+            rto: true,
+        },
         _ => Command::Bad,
     }
 }
@@ -189,13 +227,41 @@ fn parts_named(letters: u64) -> Command
     ensures { λ r. ⌜ r ≡ partsIn letters ⌝ }
 {
     match letters {
-        0o23 => Command::State { sender: true, timers: false, rto: false },
-        0o24 => Command::State { sender: false, timers: true, rto: false },
-        0o22 => Command::State { sender: false, timers: false, rto: true },
-        0o23_24 => Command::State { sender: true, timers: true, rto: false },
-        0o23_22 => Command::State { sender: true, timers: false, rto: true },
-        0o24_22 => Command::State { sender: false, timers: true, rto: true },
-        0o23_24_22 => Command::State { sender: true, timers: true, rto: true },
+        0o23 => Command::State {
+            sender: true,
+            timers: false,
+            rto: false,
+        },
+        0o24 => Command::State {
+            sender: false,
+            timers: true,
+            rto: false,
+        },
+        0o22 => Command::State {
+            sender: false,
+            timers: false,
+            rto: true,
+        },
+        0o23_24 => Command::State {
+            sender: true,
+            timers: true,
+            rto: false,
+        },
+        0o23_22 => Command::State {
+            sender: true,
+            timers: false,
+            rto: true,
+        },
+        0o24_22 => Command::State {
+            sender: false,
+            timers: true,
+            rto: true,
+        },
+        0o23_24_22 => Command::State {
+            sender: true,
+            timers: true,
+            rto: true,
+        },
         _ => Command::Bad,
     }
 }
@@ -223,9 +289,15 @@ fn stream_call(name: u64, identifier: u16) -> Command
     ensures { λ r. ⌜ r ≡ streamCallOf name identifier ⌝ }
 {
     match name {
-        HASPEND => Command::Run(Call::Ask(Query::PendingContainsStream { identifier: identifier })),
-        HAS => Command::Run(Call::Ask(Query::ContainsStream { identifier: identifier })),
-        STREAM => Command::Stream { identifier: identifier },
+        HASPEND => Command::Run(Call::Ask(Query::PendingContainsStream {
+            identifier: identifier,
+        })),
+        HAS => Command::Run(Call::Ask(Query::ContainsStream {
+            identifier: identifier,
+        })),
+        STREAM => Command::Stream {
+            identifier: identifier,
+        },
         _ => timer_call(name, identifier),
     }
 }
@@ -309,7 +381,10 @@ fn sender(a: Token, b: Token) -> Command
     let Long::Is(number) = arguments::as_long(b) else {
         return Command::Bad;
     };
-    Command::Sender { tsn: tsn, number: number }
+    Command::Sender {
+        tsn: tsn,
+        number: number,
+    }
 }
 
 fn open(a: Token, b: Token) -> Command
@@ -321,7 +396,10 @@ fn open(a: Token, b: Token) -> Command
     let Middle::Is(maximum) = arguments::as_middle(b) else {
         return Command::Bad;
     };
-    Command::Run(Call::Open { identifier: identifier, maximum: maximum })
+    Command::Run(Call::Open {
+        identifier: identifier,
+        maximum: maximum,
+    })
 }
 
 fn low(a: Token, b: Token) -> Command
@@ -333,7 +411,10 @@ fn low(a: Token, b: Token) -> Command
     let Long::Is(threshold) = arguments::as_long(b) else {
         return Command::Bad;
     };
-    Command::Run(Call::SetLow { identifier: identifier, threshold: threshold })
+    Command::Run(Call::SetLow {
+        identifier: identifier,
+        threshold: threshold,
+    })
 }
 
 fn high(a: Token, b: Token) -> Command
@@ -345,7 +426,10 @@ fn high(a: Token, b: Token) -> Command
     let Long::Is(threshold) = arguments::as_long(b) else {
         return Command::Bad;
     };
-    Command::Run(Call::SetHigh { identifier: identifier, threshold: threshold })
+    Command::Run(Call::SetHigh {
+        identifier: identifier,
+        threshold: threshold,
+    })
 }
 
 fn released(a: Token, b: Token) -> Command
@@ -357,7 +441,10 @@ fn released(a: Token, b: Token) -> Command
     let Signed::Is(released) = arguments::as_signed(b) else {
         return Command::Bad;
     };
-    Command::Run(Call::Release { identifier: identifier, released: released })
+    Command::Run(Call::Release {
+        identifier: identifier,
+        released: released,
+    })
 }
 
 fn expired_within(a: Token, b: Token) -> Command
@@ -369,7 +456,10 @@ fn expired_within(a: Token, b: Token) -> Command
     let Long::Is(room) = arguments::as_long(b) else {
         return Command::Bad;
     };
-    Command::ListWithin { clock: clock, room: room }
+    Command::ListWithin {
+        clock: clock,
+        room: room,
+    }
 }
 
 fn set_timer(a: Token, b: Token) -> Command
@@ -381,7 +471,10 @@ fn set_timer(a: Token, b: Token) -> Command
     let Time::Is(time) = arguments::as_moment(b) else {
         return Command::Bad;
     };
-    Command::Clock(TimerCall::Set { timer: timer, time: time })
+    Command::Clock(TimerCall::Set {
+        timer: timer,
+        time: time,
+    })
 }
 
 fn timer_expired(a: Token, b: Token) -> Command
@@ -393,7 +486,10 @@ fn timer_expired(a: Token, b: Token) -> Command
     let Long::Is(clock) = arguments::as_long(b) else {
         return Command::Bad;
     };
-    Command::Clock(TimerCall::IsExpired { timer: timer, clock: clock })
+    Command::Clock(TimerCall::IsExpired {
+        timer: timer,
+        clock: clock,
+    })
 }
 
 fn set_count(a: Token, b: Token) -> Command
@@ -405,7 +501,10 @@ fn set_count(a: Token, b: Token) -> Command
     let Middle::Is(count) = arguments::as_middle(b) else {
         return Command::Bad;
     };
-    Command::Clock(TimerCall::SetCount { timer: timer, count: count })
+    Command::Clock(TimerCall::SetCount {
+        timer: timer,
+        count: count,
+    })
 }
 
 fn set_rto(a: Token, b: Token) -> Command
@@ -417,7 +516,10 @@ fn set_rto(a: Token, b: Token) -> Command
     let Flag::Is(kept) = arguments::as_flag(b) else {
         return Command::Bad;
     };
-    Command::Estimate(RtoCall::Set { rto: rto, kept: kept })
+    Command::Estimate(RtoCall::Set {
+        rto: rto,
+        kept: kept,
+    })
 }
 
 fn set_buffered(a: Token, b: Token) -> Command
@@ -429,7 +531,10 @@ fn set_buffered(a: Token, b: Token) -> Command
     let Middle::Is(amount) = arguments::as_middle(b) else {
         return Command::Bad;
     };
-    Command::SetBuffered { identifier: identifier, amount: amount }
+    Command::SetBuffered {
+        identifier: identifier,
+        amount: amount,
+    }
 }
 
 fn two(name: u64, a: Token, b: Token) -> Command
@@ -465,7 +570,11 @@ fn timers(a: Token, b: Token, c: Token) -> Command
     let Long::Is(longest) = arguments::as_long(c) else {
         return Command::Bad;
     };
-    Command::Clock(TimerCall::Make { init: init, data: data, longest: longest })
+    Command::Clock(TimerCall::Make {
+        init: init,
+        data: data,
+        longest: longest,
+    })
 }
 
 fn started(a: Token, b: Token, c: Token) -> Command
@@ -480,7 +589,11 @@ fn started(a: Token, b: Token, c: Token) -> Command
     let Long::Is(interval) = arguments::as_long(c) else {
         return Command::Bad;
     };
-    Command::Clock(TimerCall::Start { timer: timer, clock: clock, interval: interval })
+    Command::Clock(TimerCall::Start {
+        timer: timer,
+        clock: clock,
+        interval: interval,
+    })
 }
 
 fn restarted(a: Token, b: Token, c: Token) -> Command
@@ -495,7 +608,11 @@ fn restarted(a: Token, b: Token, c: Token) -> Command
     let Long::Is(interval) = arguments::as_long(c) else {
         return Command::Bad;
     };
-    Command::Clock(TimerCall::Restart { timer: timer, clock: clock, interval: interval })
+    Command::Clock(TimerCall::Restart {
+        timer: timer,
+        clock: clock,
+        interval: interval,
+    })
 }
 
 fn new_rto(a: Token, b: Token, c: Token) -> Command
@@ -510,7 +627,11 @@ fn new_rto(a: Token, b: Token, c: Token) -> Command
     let Long::Is(most) = arguments::as_long(c) else {
         return Command::Bad;
     };
-    Command::Estimate(RtoCall::Make { initial: initial, least: least, most: most })
+    Command::Estimate(RtoCall::Make {
+        initial: initial,
+        least: least,
+        most: most,
+    })
 }
 
 fn three(name: u64, a: Token, b: Token, c: Token) -> Command
@@ -542,7 +663,12 @@ fn reliability(a: Token, b: Token, c: Token, d: Token) -> Command
     let Middle::Is(value) = arguments::as_middle(d) else {
         return Command::Bad;
     };
-    Command::Run(Call::SetReliability { identifier: identifier, unordered: unordered, kind: kind, value: value })
+    Command::Run(Call::SetReliability {
+        identifier: identifier,
+        unordered: unordered,
+        kind: kind,
+        value: value,
+    })
 }
 
 fn write(a: Token, b: Token, c: Token, d: Token) -> Command
@@ -560,7 +686,12 @@ fn write(a: Token, b: Token, c: Token, d: Token) -> Command
     let Long::Is(length) = arguments::as_long(d) else {
         return Command::Bad;
     };
-    Command::Run(Call::Write { identifier: identifier, protocol: protocol, offset: offset, length: length })
+    Command::Run(Call::Write {
+        identifier: identifier,
+        protocol: protocol,
+        offset: offset,
+        length: length,
+    })
 }
 
 fn four(name: u64, a: Token, b: Token, c: Token, d: Token) -> Command

@@ -14,8 +14,15 @@ use Rattle.script.specs.Meaning as Meaning
 abbrev pub startOf : Line
 startOf =
     record {
-      words = 0; inside = false; comment = false; current = Token.Other;
-      name = Token.Other; first = Token.Other; second = Token.Other; third = Token.Other; fourth = Token.Other;
+      words = 0;
+      inside = false;
+      comment = false;
+      current = Token.Other;
+      name = Token.Other;
+      first = Token.Other;
+      second = Token.Other;
+      third = Token.Other;
+      fourth = Token.Other;
     }
 
 abbrev pub blank : ℕ → Bool
@@ -47,8 +54,15 @@ storedOf l comment =
 unfoldable pub markedOf : Line → (inside comment : Bool) → Token → Line
 markedOf l inside comment k =
     record {
-      words = l .words; inside = inside; comment = comment; current = k;
-      name = l .name; first = l .first; second = l .second; third = l .third; fourth = l .fourth;
+      words = l .words;
+      inside = inside;
+      comment = comment;
+      current = k;
+      name = l .name;
+      first = l .first;
+      second = l .second;
+      third = l .third;
+      fourth = l .fourth;
     }
 
 unfoldable pub endedOf : Line → Bool → Line

@@ -4,7 +4,6 @@ use mathlib.Core.Bool.{Bool, true, _&&_}
 use mathlib.Core.List.{List, [], _∷_}
 use lib.Dec.{leb}
 
-
 -- every byte is of the kind
 abbrev pub all : (ℕ → Bool) → List ℕ → Bool
 all ok [] = true
