@@ -18,8 +18,15 @@ use Rattle.script.specs.Claims.{ReadsLines}
 abbrev five : ℕ → Token → Token → Token → Token → Token → Line
 five n name first second third fourth =
     record {
-      words = n; inside = false; comment = false; current = Token.Other;
-      name = name; first = first; second = second; third = third; fourth = fourth;
+      words = n;
+      inside = false;
+      comment = false;
+      current = Token.Other;
+      name = name;
+      first = first;
+      second = second;
+      third = third;
+      fourth = fourth;
     }
 
 -- the places of whole words

@@ -15,6 +15,7 @@ use model::TailExpired;
 use model::Written;
 use sender_head::Head;
 use stream_table::Place;
+ghost use Prim.Native.Nat.{_≤_};
 
 // ---- answers by their kind
 
@@ -195,7 +196,35 @@ fn tsns(out: &mut [u8], at: usize, list: &[u32], count: usize) -> usize {
     place
 }
 
+fn listed(
+    h: Head,
+    cells: &[u64],
+    out: &mut [u8],
+    at: usize,
+    clock: u64,
+    list: &mut [u32],
+) -> usize {
+    let found = sender_queue::expired_inflight(h, cells, clock, list);
+    match found {
+        Listed::Count(count) => {
+            let place = answers::number(out, at, b"n=", count as u64);
+            let behind = tsns(out, place, list, count);
+            answers::line(out, behind)
+        }
+        Listed::Refused(n) => answers::refusal(out, at, n),
+    }
+}
+
 // A room beyond the flight's is the flight's: no more can have expired.
+fn list_room(room: u64) -> usize
+    ensures { λ r. ⌜ r ≤ 256 ⌝ }
+{
+    if room < 256 {
+        return room as usize;
+    }
+    256
+}
+
 pub fn expired_within(
     h: Head,
     cells: &[u64],
@@ -204,17 +233,9 @@ pub fn expired_within(
     clock: u64,
     room: u64,
 ) -> usize {
-    let mut list = [0u32; limits::FLIGHT_ROOM];
-    let size = if room < 256 { room as usize } else { 256 };
-    let listed = sender_queue::expired_inflight(h, cells, clock, &mut list[0..size]);
-    match listed {
-        Listed::Count(count) => {
-            let place = answers::number(out, at, b"n=", count as u64);
-            let behind = tsns(out, place, &list, count);
-            answers::line(out, behind)
-        }
-        Listed::Refused(n) => answers::refusal(out, at, n),
-    }
+    let mut list = [0u32; 256];
+    let size = list_room(room);
+    listed(h, cells, out, at, clock, &mut list[0..size])
 }
 
 // ---- one stream, and the sums

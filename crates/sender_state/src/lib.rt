@@ -84,17 +84,18 @@ fn rings(h: Head, cells: &[u64], out: &mut [u8], at: usize) -> usize {
     )
 }
 
-pub fn whole(h: Head, cells: &[u64], out: &mut [u8], at: usize) -> usize {
-    let p1 = answers::number(
-        out,
-        at,
-        b"sender next_tsn=",
-        sender_asks::next_tsn(h, cells) as u64,
-    );
+fn numbers(h: Head, cells: &[u64], out: &mut [u8], at: usize) -> usize {
+    let next_tsn = sender_asks::next_tsn(h, cells);
+    let unseen = h.queue.next_unstarted_message_id;
+    let p1 = answers::number(out, at, b"sender next_tsn=", next_tsn as u64);
     let p2 = answers::number(out, p1, b" next_msg=", sender_asks::next_message(h));
-    let p3 = answers::number(out, p2, b" next_unseen=", h.queue.next_unstarted_message_id);
-    let p4 = under_way(h, cells, out, p3);
-    let p5 = sender_answers::counts(h, cells, out, p4, b" plen=");
-    let p6 = streams(h, cells, out, p5);
-    rings(h, cells, out, p6)
+    let p3 = answers::number(out, p2, b" next_unseen=", unseen);
+    under_way(h, cells, out, p3)
+}
+
+pub fn whole(h: Head, cells: &[u64], out: &mut [u8], at: usize) -> usize {
+    let p1 = numbers(h, cells, out, at);
+    let p2 = sender_answers::counts(h, cells, out, p1, b" plen=");
+    let p3 = streams(h, cells, out, p2);
+    rings(h, cells, out, p3)
 }

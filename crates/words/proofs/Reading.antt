@@ -25,26 +25,26 @@ neither false = refl
 -- figures of one kind, in a base, up to a limit, held as one kind of word
 module _ (ok : ℕ → Bool) (base z limit : ℕ) (held : ℕ → Token) (larger : (v x : ℕ) → v ≤ v * base + x)
     (grows : (v b : ℕ) → growOf (held v) b ≡ cond (ok b) (cond (leb (v * base + (b - z)) limit) (held (v * base + (b - z))) Token.Other) Token.Other)
-    where
-  rises : (bs : List ℕ) (v : ℕ) → v ≤ behind base z v bs
-  rises [] v = omega arith
-  rises (b ∷ bs) v = omega (arith, larger v (b - z), rises bs (v * base + (b - z)))
+  where
+    rises : (bs : List ℕ) (v : ℕ) → v ≤ behind base z v bs
+    rises [] v = omega arith
+    rises (b ∷ bs) v = omega (arith, larger v (b - z), rises bs (v * base + (b - z)))
 
-  abbrev whole : ℕ → List ℕ → Token
-  whole v bs = cond (all ok bs) (cond (leb (behind base z v bs) limit) (held (behind base z v bs)) Token.Other) Token.Other
+    abbrev whole : ℕ → List ℕ → Token
+    whole v bs = cond (all ok bs) (cond (leb (behind base z v bs) limit) (held (behind base z v bs)) Token.Other) Token.Other
 
-  -- with one byte more, by whether it is of the kind and whether the value stays within the limit
-  more : (b : ℕ) (bs : List ℕ) (v : ℕ) → ((w : ℕ) → w ≤ limit → grown (held w) bs ≡ whole w bs)
-      → (d t : Bool) → ok b ≡ d → leb (v * base + (b - z)) limit ≡ t → grown (growOf (held v) b) bs ≡ whole v (b ∷ bs)
-  more b bs v rest true true p q = simp (grows v b, p, q) (rest (v * base + (b - z)) (leb-true _ _ q))
-  more b bs v rest true false p q =
-      let far : limit < behind base z (v * base + (b - z)) bs = omega (arith, leb-false (v * base + (b - z)) limit q, rises bs (v * base + (b - z))) in
-      simp (grows v b, p, q, lt-leb (behind base z (v * base + (b - z)) bs) limit far, other-stays bs) (neither (all ok bs))
-  more b bs v rest false t p q = simp (grows v b, p, other-stays bs)
+    -- with one byte more, by whether it is of the kind and whether the value stays within the limit
+    more : (b : ℕ) (bs : List ℕ) (v : ℕ) → ((w : ℕ) → w ≤ limit → grown (held w) bs ≡ whole w bs)
+        → (d t : Bool) → ok b ≡ d → leb (v * base + (b - z)) limit ≡ t → grown (growOf (held v) b) bs ≡ whole v (b ∷ bs)
+    more b bs v rest true true p q = simp (grows v b, p, q) (rest (v * base + (b - z)) (leb-true _ _ q))
+    more b bs v rest true false p q =
+        let far : limit < behind base z (v * base + (b - z)) bs = omega (arith, leb-false (v * base + (b - z)) limit q, rises bs (v * base + (b - z))) in
+        simp (grows v b, p, q, lt-leb (behind base z (v * base + (b - z)) bs) limit far, other-stays bs) (neither (all ok bs))
+    more b bs v rest false t p q = simp (grows v b, p, other-stays bs)
 
-  pub read : (bs : List ℕ) (v : ℕ) → v ≤ limit → grown (held v) bs ≡ whole v bs
-  read [] v h = simp (le-leb v limit h)
-  read (b ∷ bs) v h = more b bs v (read bs) (ok b) (leb (v * base + (b - z)) limit) refl refl
+    pub read : (bs : List ℕ) (v : ℕ) → v ≤ limit → grown (held v) bs ≡ whole v bs
+    read [] v h = simp (le-leb v limit h)
+    read (b ∷ bs) v h = more b bs v (read bs) (ok b) (leb (v * base + (b - z)) limit) refl refl
 
 -- ---- the three kinds
 
