@@ -219,27 +219,58 @@ fn fresh_estimator() -> RtoManager {
     }
 }
 
+// What a block of the input left, and whether it was the last.
+struct Turn {
+    reading: Reading,
+    ended: bool,
+}
+
+fn read_some(reading: Reading, cells: &mut [u64], out: &mut [u8], input: &mut [u8]) -> Turn {
+    let got = libc::read(libc::STDIN_FILENO, input);
+    if got <= 0 {
+        return Turn {
+            reading: reading,
+            ended: true,
+        };
+    }
+    let n = io::count(got, input);
+    let after = block(reading, cells, out, &input[..n]);
+    Turn {
+        reading: after,
+        ended: false,
+    }
+}
+
+// The last line may have no end of its own.
+fn last_line(reading: Reading, cells: &mut [u64], out: &mut [u8]) {
+    let line = reading.line;
+    let world = reading.world;
+    let after = run(world, cells, out, script::finish(line));
+    answers::flush(out, after.at);
+}
+
 // A proved loop has to end, and nothing says that the input does: the blocks are counted down from a number that no run uses up.
-fn main() {
-    let mut cells = [0u64; 6656];
-    let mut input = io::large_buffer();
-    let mut out = io::large_buffer();
+fn all(cells: &mut [u64], out: &mut [u8], input: &mut [u8]) -> Reading {
     let mut reading = Reading {
         world: fresh(),
         line: script::start(),
     };
     let mut blocks = u64::MAX;
     while blocks > 0 {
-        let got = libc::read(libc::STDIN_FILENO, &mut input);
-        if got <= 0 {
-            break;
+        let next = read_some(reading, cells, out, input);
+        reading = next.reading;
+        if next.ended {
+            return reading;
         }
-        let n = io::count(got, &input);
-        reading = block(reading, &mut cells, &mut out, &input[..n]);
         blocks -= 1;
     }
-    let line = reading.line;
-    let world = reading.world;
-    let last = run(world, &mut cells, &mut out, script::finish(line));
-    answers::flush(&out, last.at);
+    reading
+}
+
+fn main() {
+    let mut cells = [0u64; 6656];
+    let mut input = io::large_buffer();
+    let mut out = io::large_buffer();
+    let reading = all(&mut cells, &mut out, &mut input);
+    last_line(reading, &mut cells, &mut out);
 }
