@@ -1,0 +1,3 @@
+-- What more than one function's proof cites.
+pub mod Ranges
+pub mod Signs

@@ -1,0 +1,2 @@
+-- The arguments of a script's calls.
+pub mod Arguments

@@ -1,0 +1,276 @@
+// A script of calls from standard input, run on the sender, the timers and the estimator: a line of answers for each, as the Rust's own
+// driver writes them. What a line means is `script`'s, what is written `answers`' and its neighbours'.
+use calls::Call;
+use commands::Command;
+use commands::RtoCall;
+use commands::TimerCall;
+use rto::Made;
+use rto::RtoManager;
+use script::Line;
+use sender_head::Head;
+use timer::TimerTable;
+use timer_entry::Maximum;
+
+// All that a script's lines change, but the cells; `at` is the place behind the answers so far.
+struct World {
+    head: Head,
+    table: TimerTable,
+    manager: RtoManager,
+    at: usize,
+}
+
+// ---- the state
+
+fn sender_part(world: World, cells: &[u64], out: &mut [u8], wanted: bool, at: usize) -> usize {
+    if wanted {
+        let head = world.head;
+        return sender_state::whole(head, cells, out, at);
+    }
+    at
+}
+
+fn timers_part(world: World, out: &mut [u8], wanted: bool, at: usize) -> usize {
+    if wanted {
+        let table = world.table;
+        return clock_answers::timers_state(table, out, at);
+    }
+    at
+}
+
+fn rto_part(world: World, out: &mut [u8], wanted: bool, at: usize) -> usize {
+    if wanted {
+        let manager = world.manager;
+        return answers::estimate(out, at, manager);
+    }
+    at
+}
+
+fn state(
+    world: World,
+    cells: &[u64],
+    out: &mut [u8],
+    sender: bool,
+    timers: bool,
+    rto: bool,
+) -> usize {
+    let p1 = sender_part(world, cells, out, sender, world.at);
+    let p2 = timers_part(world, out, timers, p1);
+    let p3 = rto_part(world, out, rto, p2);
+    answers::text(out, p3, b"end\n")
+}
+
+// ---- a line
+
+fn with_head(world: World, head: Head, at: usize) -> World {
+    let table = world.table;
+    let manager = world.manager;
+    World {
+        head: head,
+        table: table,
+        manager: manager,
+        at: at,
+    }
+}
+
+fn answered(world: World, at: usize) -> World {
+    let head = world.head;
+    with_head(world, head, at)
+}
+
+fn sender_call(world: World, cells: &mut [u64], out: &mut [u8], call: Call) -> World {
+    let head = world.head;
+    let stepped = calls::step(head, cells, call);
+    let after = stepped.head;
+    let answer = stepped.answer;
+    let place = sender_answers::answered(out, world.at, call, answer);
+    with_head(world, after, place)
+}
+
+fn timers_call(world: World, out: &mut [u8], call: TimerCall) -> World {
+    let head = world.head;
+    let manager = world.manager;
+    let table = world.table;
+    let after = clock_answers::clock_call(table, out, world.at, call);
+    let changed = after.table;
+    World {
+        head: head,
+        table: changed,
+        manager: manager,
+        at: after.at,
+    }
+}
+
+fn rto_call(world: World, out: &mut [u8], call: RtoCall) -> World {
+    let head = world.head;
+    let manager = world.manager;
+    let table = world.table;
+    let after = clock_answers::estimate_call(manager, out, world.at, call);
+    let changed = after.manager;
+    World {
+        head: head,
+        table: table,
+        manager: changed,
+        at: after.at,
+    }
+}
+
+fn run(world: World, cells: &mut [u64], out: &mut [u8], command: Command) -> World {
+    let head = world.head;
+    let at = world.at;
+    match command {
+        Command::Blank => world,
+        Command::Bad => answered(world, answers::bad(out, at)),
+        Command::Sender { tsn, number } => {
+            with_head(world, sender_head::new(tsn, number), answers::done(out, at))
+        }
+        Command::Run(call) => sender_call(world, cells, out, call),
+        Command::List { clock } => {
+            answered(
+                world,
+                sender_answers::expired_within(head, cells, out, at, clock, 256),
+            )
+        }
+        Command::ListWithin { clock, room } => {
+            answered(
+                world,
+                sender_answers::expired_within(head, cells, out, at, clock, room),
+            )
+        }
+        Command::Counts => answered(
+            world,
+            sender_answers::counts(head, cells, out, at, b"plen="),
+        ),
+        Command::Stream { identifier } => {
+            answered(
+                world,
+                sender_answers::stream(head, cells, out, at, identifier),
+            )
+        }
+        Command::SetBuffered { identifier, amount } => {
+            answered(
+                world,
+                sender_answers::set_buffered(head, cells, out, at, identifier, amount),
+            )
+        }
+        Command::Clock(call) => timers_call(world, out, call),
+        Command::Estimate(call) => rto_call(world, out, call),
+        Command::State {
+            sender,
+            timers,
+            rto,
+        } => answered(world, state(world, cells, out, sender, timers, rto)),
+    }
+}
+
+// ---- the input
+
+struct Reading {
+    world: World,
+    line: Line,
+}
+
+// One block of the input, byte by byte; a line may go on in the next.
+fn block(reading: Reading, cells: &mut [u64], out: &mut [u8], bytes: &[u8]) -> Reading {
+    let mut world = reading.world;
+    let mut line = reading.line;
+    let mut i = 0;
+    while i < bytes.len() {
+        let byte = bytes[i];
+        if byte == 10 {
+            world = run(world, cells, out, script::finish(line));
+            line = script::start();
+        } else {
+            line = script::feed(line, byte);
+        }
+        i += 1;
+    }
+    Reading {
+        world: world,
+        line: line,
+    }
+}
+
+// What every script finds before its first line.
+fn fresh() -> World {
+    let made = TimerTable::new(Maximum::Unlimited, Maximum::Unlimited, 60_000);
+    let table = made.table;
+    World {
+        head: sender_head::new(0, 0),
+        table: table,
+        manager: fresh_estimator(),
+        at: 0,
+    }
+}
+
+fn fresh_estimator() -> RtoManager {
+    let made = RtoManager::new(3_000, 1_000, 60_000);
+    let none = RtoManager {
+        srtt: 0,
+        rttvar: 0.0,
+        rto: 0,
+        no_update: false,
+        rto_initial: 0,
+        rto_min: 0,
+        rto_max: 0,
+    };
+    match made {
+        Made::Ready(manager) => manager,
+        Made::Refused(_) => none,
+    }
+}
+
+// What a block of the input left, and whether it was the last.
+struct Turn {
+    reading: Reading,
+    ended: bool,
+}
+
+fn read_some(reading: Reading, cells: &mut [u64], out: &mut [u8], input: &mut [u8]) -> Turn {
+    let got = libc::read(libc::STDIN_FILENO, input);
+    if got <= 0 {
+        return Turn {
+            reading: reading,
+            ended: true,
+        };
+    }
+    let n = io::count(got, input);
+    let after = block(reading, cells, out, &input[..n]);
+    Turn {
+        reading: after,
+        ended: false,
+    }
+}
+
+// The last line may have no end of its own.
+fn last_line(reading: Reading, cells: &mut [u64], out: &mut [u8]) {
+    let line = reading.line;
+    let world = reading.world;
+    let after = run(world, cells, out, script::finish(line));
+    answers::flush(out, after.at);
+}
+
+// A proved loop has to end, and nothing says that the input does: the blocks are counted down from a number that no run uses up.
+fn all(cells: &mut [u64], out: &mut [u8], input: &mut [u8]) -> Reading {
+    let mut reading = Reading {
+        world: fresh(),
+        line: script::start(),
+    };
+    let mut blocks = u64::MAX;
+    while blocks > 0 {
+        let next = read_some(reading, cells, out, input);
+        reading = next.reading;
+        if next.ended {
+            return reading;
+        }
+        blocks -= 1;
+    }
+    reading
+}
+
+fn main() {
+    let mut cells = [0u64; 6656];
+    let mut input = io::large_buffer();
+    let mut out = io::large_buffer();
+    let reading = all(&mut cells, &mut out, &mut input);
+    last_line(reading, &mut cells, &mut out);
+}
