@@ -10,6 +10,7 @@ use timer::Answer;
 use timer::Changed;
 use timer::Expiry;
 use timer::TimerTable;
+use timer_entry::Maximum;
 use timer_entry::Timer;
 
 // The timers after a call, and the place behind its answer.
@@ -66,52 +67,84 @@ fn counted(table: TimerTable, which: Timer, count: u32) -> TimerTable {
 }
 
 // A refusal leaves the table that was.
-fn made_timers(old: TimerTable, made: Changed) -> TimerTable {
-    let answer = made.answer;
-    let table = made.table;
-    match answer {
-        Answer::Done => table,
-        Answer::Refused(_) => old,
-    }
-}
-
-fn after_change(out: &mut [u8], at: usize, after: Changed) -> Timers {
+fn made(old: TimerTable, init: Maximum, data: Maximum, longest: u64) -> Changed {
+    let after = TimerTable::new(init, data, longest);
     let answer = after.answer;
     let table = after.table;
-    let place = changed(out, at, answer);
-    Timers {
-        table: table,
-        at: place,
+    match answer {
+        Answer::Done => Changed {
+            answer: answer,
+            table: table,
+        },
+        Answer::Refused(_) => Changed {
+            answer: answer,
+            table: old,
+        },
     }
 }
 
-pub fn clock_call(old: TimerTable, out: &mut [u8], at: usize, call: TimerCall) -> Timers {
+fn settled(table: TimerTable) -> Changed {
+    Changed {
+        answer: Answer::Done,
+        table: table,
+    }
+}
+
+// The calls that are never refused.
+fn settled_by(old: TimerTable, call: TimerCall) -> Changed {
+    match call {
+        TimerCall::Stop { timer } => settled(old.stop(timer)),
+        TimerCall::Reset { timer } => settled(old.reset_retrans(timer)),
+        TimerCall::Suppress { timer } => settled(old.suppress_error_count(timer)),
+        TimerCall::SetCount { timer, count } => settled(counted(old, timer, count)),
+        _ => settled(old),
+    }
+}
+
+fn changed_by(old: TimerTable, call: TimerCall) -> Changed {
     match call {
         TimerCall::Make {
             init,
             data,
             longest,
-        } => {
-            let made = TimerTable::new(init, data, longest);
-            let answer = made.answer;
-            let table = made_timers(old, made);
-            let place = changed(out, at, answer);
-            Timers {
-                table: table,
-                at: place,
-            }
-        }
-        TimerCall::Set { timer, time } => after_change(out, at, old.set(timer, time)),
+        } => made(old, init, data, longest),
+        TimerCall::Set { timer, time } => old.set(timer, time),
         TimerCall::Start {
             timer,
             clock,
             interval,
-        } => after_change(out, at, old.start(timer, clock, interval)),
+        } => old.start(timer, clock, interval),
         TimerCall::Restart {
             timer,
             clock,
             interval,
-        } => after_change(out, at, old.restart_if_stale(timer, clock, interval)),
+        } => old.restart_if_stale(timer, clock, interval),
+        _ => settled_by(old, call),
+    }
+}
+
+fn checked(old: TimerTable, out: &mut [u8], at: usize, timer: Timer, clock: u64) -> Timers {
+    let after = old.is_expired(timer, clock);
+    let answer = after.answer;
+    let table = after.table;
+    Timers {
+        table: table,
+        at: told(out, at, answer),
+    }
+}
+
+fn after_change(old: TimerTable, out: &mut [u8], at: usize, call: TimerCall) -> Timers {
+    let after = changed_by(old, call);
+    let answer = after.answer;
+    let table = after.table;
+    Timers {
+        table: table,
+        at: changed(out, at, answer),
+    }
+}
+
+pub fn clock_call(old: TimerTable, out: &mut [u8], at: usize, call: TimerCall) -> Timers {
+    match call {
         TimerCall::Get { timer } => Timers {
             table: old,
             at: deadline(out, at, old.get(timer)),
@@ -120,31 +153,8 @@ pub fn clock_call(old: TimerTable, out: &mut [u8], at: usize, call: TimerCall) -
             table: old,
             at: deadline(out, at, old.next_timeout()),
         },
-        TimerCall::IsExpired { timer, clock } => {
-            let checked = old.is_expired(timer, clock);
-            let answer = checked.answer;
-            let table = checked.table;
-            let place = told(out, at, answer);
-            Timers {
-                table: table,
-                at: place,
-            }
-        }
-        _ => Timers {
-            table: settled(old, call),
-            at: answers::done(out, at),
-        },
-    }
-}
-
-// The calls that are never refused.
-fn settled(old: TimerTable, call: TimerCall) -> TimerTable {
-    match call {
-        TimerCall::Stop { timer } => old.stop(timer),
-        TimerCall::Reset { timer } => old.reset_retrans(timer),
-        TimerCall::Suppress { timer } => old.suppress_error_count(timer),
-        TimerCall::SetCount { timer, count } => counted(old, timer, count),
-        _ => old,
+        TimerCall::IsExpired { timer, clock } => checked(old, out, at, timer, clock),
+        _ => after_change(old, out, at, call),
     }
 }
 

@@ -61,6 +61,53 @@ fn state(
 
 // ---- a line
 
+// The sender after a call, and the place behind its answer.
+struct Sender {
+    head: Head,
+    at: usize,
+}
+
+fn stepped(h: Head, cells: &mut [u64], out: &mut [u8], at: usize, call: Call) -> Sender {
+    let after = calls::step(h, cells, call);
+    let head = after.head;
+    let answer = after.answer;
+    Sender {
+        head: head,
+        at: sender_answers::answered(out, at, call, answer),
+    }
+}
+
+// What is asked of the sender alone, and a line that is no call.
+fn asked(h: Head, cells: &mut [u64], out: &mut [u8], at: usize, command: Command) -> usize {
+    match command {
+        Command::Bad => answers::bad(out, at),
+        Command::List { clock } => sender_answers::expired_within(h, cells, out, at, clock, 256),
+        Command::ListWithin { clock, room } => {
+            sender_answers::expired_within(h, cells, out, at, clock, room)
+        }
+        Command::Counts => sender_answers::counts(h, cells, out, at, b"plen="),
+        Command::Stream { identifier } => sender_answers::stream(h, cells, out, at, identifier),
+        Command::SetBuffered { identifier, amount } => {
+            sender_answers::set_buffered(h, cells, out, at, identifier, amount)
+        }
+        _ => at,
+    }
+}
+
+fn sender_call(h: Head, cells: &mut [u64], out: &mut [u8], at: usize, command: Command) -> Sender {
+    match command {
+        Command::Sender { tsn, number } => Sender {
+            head: sender_head::new(tsn, number),
+            at: answers::done(out, at),
+        },
+        Command::Run(call) => stepped(h, cells, out, at, call),
+        _ => Sender {
+            head: h,
+            at: asked(h, cells, out, at, command),
+        },
+    }
+}
+
 fn with_head(world: World, head: Head, at: usize) -> World {
     let table = world.table;
     let manager = world.manager;
@@ -72,93 +119,60 @@ fn with_head(world: World, head: Head, at: usize) -> World {
     }
 }
 
-fn answered(world: World, at: usize) -> World {
-    let head = world.head;
-    with_head(world, head, at)
-}
-
-fn sender_call(world: World, cells: &mut [u64], out: &mut [u8], call: Call) -> World {
-    let head = world.head;
-    let stepped = calls::step(head, cells, call);
-    let after = stepped.head;
-    let answer = stepped.answer;
-    let place = sender_answers::answered(out, world.at, call, answer);
-    with_head(world, after, place)
-}
-
-fn timers_call(world: World, out: &mut [u8], call: TimerCall) -> World {
+fn with_table(world: World, table: TimerTable, at: usize) -> World {
     let head = world.head;
     let manager = world.manager;
-    let table = world.table;
-    let after = clock_answers::clock_call(table, out, world.at, call);
-    let changed = after.table;
-    World {
-        head: head,
-        table: changed,
-        manager: manager,
-        at: after.at,
-    }
-}
-
-fn rto_call(world: World, out: &mut [u8], call: RtoCall) -> World {
-    let head = world.head;
-    let manager = world.manager;
-    let table = world.table;
-    let after = clock_answers::estimate_call(manager, out, world.at, call);
-    let changed = after.manager;
     World {
         head: head,
         table: table,
-        manager: changed,
-        at: after.at,
+        manager: manager,
+        at: at,
     }
+}
+
+fn with_manager(world: World, manager: RtoManager, at: usize) -> World {
+    let head = world.head;
+    let table = world.table;
+    World {
+        head: head,
+        table: table,
+        manager: manager,
+        at: at,
+    }
+}
+
+fn timers_call(world: World, out: &mut [u8], call: TimerCall) -> World {
+    let table = world.table;
+    let after = clock_answers::clock_call(table, out, world.at, call);
+    let changed = after.table;
+    with_table(world, changed, after.at)
+}
+
+fn rto_call(world: World, out: &mut [u8], call: RtoCall) -> World {
+    let manager = world.manager;
+    let after = clock_answers::estimate_call(manager, out, world.at, call);
+    let changed = after.manager;
+    with_manager(world, changed, after.at)
 }
 
 fn run(world: World, cells: &mut [u64], out: &mut [u8], command: Command) -> World {
     let head = world.head;
-    let at = world.at;
     match command {
-        Command::Blank => world,
-        Command::Bad => answered(world, answers::bad(out, at)),
-        Command::Sender { tsn, number } => {
-            with_head(world, sender_head::new(tsn, number), answers::done(out, at))
-        }
-        Command::Run(call) => sender_call(world, cells, out, call),
-        Command::List { clock } => {
-            answered(
-                world,
-                sender_answers::expired_within(head, cells, out, at, clock, 256),
-            )
-        }
-        Command::ListWithin { clock, room } => {
-            answered(
-                world,
-                sender_answers::expired_within(head, cells, out, at, clock, room),
-            )
-        }
-        Command::Counts => answered(
-            world,
-            sender_answers::counts(head, cells, out, at, b"plen="),
-        ),
-        Command::Stream { identifier } => {
-            answered(
-                world,
-                sender_answers::stream(head, cells, out, at, identifier),
-            )
-        }
-        Command::SetBuffered { identifier, amount } => {
-            answered(
-                world,
-                sender_answers::set_buffered(head, cells, out, at, identifier, amount),
-            )
-        }
         Command::Clock(call) => timers_call(world, out, call),
         Command::Estimate(call) => rto_call(world, out, call),
         Command::State {
             sender,
             timers,
             rto,
-        } => answered(world, state(world, cells, out, sender, timers, rto)),
+        } => {
+            let place = state(world, cells, out, sender, timers, rto);
+            with_head(world, head, place)
+        }
+        _ => {
+            let after = sender_call(head, cells, out, world.at, command);
+            let changed = after.head;
+            with_head(world, changed, after.at)
+        }
     }
 }
 
