@@ -11,6 +11,13 @@ use crate::script::{lines, without};
 use crate::sides::Side;
 use crate::tally::Tally;
 
+/// What the oracle alone knows: `replay` answers `bad` to it, so it may not stand in a sample for both.
+const OF_THE_ORACLE: [&str; 6] = ["mode", "cap", "touch", "wire", "setssn", "setstats"];
+
+fn is_of_the_oracle(line: &str) -> bool {
+    line.split_whitespace().next().is_some_and(|call| OF_THE_ORACLE.contains(&call))
+}
+
 /// Writes `stdin` and `stdout` to the folder. Whether every call and every refusal is in it; where a call is left
 /// out on demand, what it would reach may be missing too.
 pub fn sample(options: &Options, oracle: &Side, sections: &Path) -> io::Result<bool> {
@@ -34,5 +41,9 @@ pub fn sample(options: &Options, oracle: &Side, sections: &Path) -> io::Result<b
     for what in &missing {
         println!("MISSING: {what}");
     }
-    Ok((missing.is_empty() || options.without.is_some()) && answers.trouble.is_none())
+    let foreign = text.lines().filter(|line| is_of_the_oracle(line)).count();
+    if foreign > 0 {
+        println!("{foreign} lines are of the oracle alone");
+    }
+    Ok((missing.is_empty() || options.without.is_some()) && foreign == 0 && answers.trouble.is_none())
 }
