@@ -1,0 +1,39 @@
+-- `lent::girdermoth_expire_pending` meets its contract, by `flat_messages::expire_pending`'s and walkkit's `on-head-1`.
+use mathlib.Core.Path.{subst}
+use mir.Syntax.{w64}
+use contract.Running.{givenOf, tables, tablesOf}
+use denote.Plain.{UInt}
+use denote.Triple.Spec.{tripleOf}
+use denote.Triple.Table.{entered, cited}
+use Rattle.limits.specs.Limits.{Room}
+use Rattle.sender_head.specs.Whole.{roomIn}
+use Rattle.sender.specs.Sizes.{sizes}
+use Rattle.walkkit.proofs.Lent.{of-uint}
+use Rattle.walkkit.proofs.OnHead.{on-head-1}
+use Rattle.flat_messages.specs.Says.{Expires}
+use Rattle.lent.specs.Says.{ExpirePending}
+use Rattle.lent.proofs.Shapes.{head, freed, state, said-freed}
+use Rattle.flat.proofs.FlatHead as D
+use Rattle.flat.proofs.Freed as N
+use Rattle.flat.proofs.SaidFreed as S
+use Rattle.lent.proofs.Sender as R
+use Rattle.flat_messages.proofs.expire_pending as g
+use Rattle.flat_messages.proofs.expire_pending.Symbol as g-def
+use Rattle.flat_messages.proofs.expire_pending.Symbol.{name as #g}
+use Rattle.flat_messages.proofs.expire_pending.Met as g-thm
+use Rattle.lent.proofs.girdermoth_expire_pending.Key.{name as #f}
+use Rattle.lent.proofs.girdermoth_expire_pending as f
+use Rattle.lent.proofs.girdermoth_expire_pending.Statement as stated
+use Rattle.lent.proofs.girdermoth_expire_pending.Code as code
+
+pub girdermoth-expire-pending-spec : {M : Type 1} → stated.statement M
+unfolding code.routine tablesOf
+girdermoth-expire-pending-spec 𝓤 H 𝓜 𝓖 𝓡 =
+    let W = givenOf 𝓤 H 𝓜 𝓖 in
+    entered 𝓤 H (tripleOf 𝓤 H (𝓖 .A) f.signature (f.spec 𝓤 H (𝓖 .A) (𝓜 .mem) (𝓡 .run)))
+    (tables 𝓤 H 𝓜 𝓡 code.env .C) (tables 𝓤 H 𝓜 𝓡 code.env .Λ) #f code.function (code.unfolded 𝓤 H 𝓜 𝓡)
+    (on-head-1 𝓤 H (𝓖 .A) W R.the-row D.the-row N.the-row S.the-row (head 𝓤 H (𝓖 .A) W) (freed 𝓤 H (𝓖 .A) W) (state 𝓤 H (𝓖 .A) W) (said-freed 𝓤 H (𝓖 .A) W) (UInt w64) (of-uint 𝓤 H (𝓖 .A) W w64)
+    (λ d ws x₁ ws′ r. Expires (roomIn ws) x₁ d ws (r .head) ws′ (r .reply))
+    (λ h x₁ h′ y. ExpirePending x₁ h h′ y)
+    (λ h x₁ ws r e e′ j. subst (λ (room : Room). Expires room x₁ (h .head) (h .cells) (r .head) ws (r .reply)) (sizes (h .cells) e) j) #g (tablesOf 𝓤 H 𝓜 (tables 𝓤 H 𝓜 𝓡 code.env))
+    (cited 𝓤 H (tripleOf 𝓤 H (𝓖 .A) g.signature (g.spec 𝓤 H (𝓖 .A) (𝓜 .mem) (𝓡 .run))) 𝓜 𝓡 code.env #g g-def.routine code.calls-flat-messages·expire-pending (g-thm.met 𝓤 H 𝓜 𝓖 𝓡)))

@@ -1,0 +1,2 @@
+-- Says: what each thin function says of the sender behind its reference.
+pub mod Says

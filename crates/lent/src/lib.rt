@@ -1,0 +1,322 @@
+// 01's sender as a host holds it: one struct, and thin functions over a reference to it. Each lends the cells to a function of the flat layer,
+// and copies the head out and in; no call copies the cells. A host that hands over any bytes at all is safe: each bit pattern of the struct is a
+// sender.
+use flat::Counts;
+use flat::FlatHead;
+use flat::Fragment;
+use flat::Freed;
+use flat::Reply;
+ghost use Rattle.lent.specs.Says.{Init, Open, SetReliability, SetLow, SetHigh, Release, Write, StartLifetimes, Send, ExpirePending, ExpirePendingTail, Abandon};
+ghost use Rattle.lent.specs.Says.{Acknowledge, Pop, MarkAll, ExpiredInflight, Get, IsAbandoned, PeekPending, NextMessage, NextTsn, PendingLength, PendingBytes, InflightLength};
+ghost use Rattle.lent.specs.Says.{InflightBytes, EarliestOutstanding, PendingContainsStream, ContainsStream, BufferedAmount, LowThreshold, HighThreshold, Statistics};
+
+// 64 streams, and 256 slots in each ring and in the flight.
+#[repr(C)]
+pub struct Sender {
+    pub head: FlatHead,
+    pub cells: [u64; 6656],
+}
+
+// ---- a fresh sender, and its streams
+
+// A fresh sender, whatever the bytes were: the first chunk takes the TSN `tsn`, the first message the number `number`.
+#[no_mangle]
+pub extern "C" fn girdermoth_init(s: &mut Sender, tsn: u32, number: u64) -> Reply
+    ensures { λ r. ⌜ Init tsn number (now (s .entry)) (now (s .exit)) r ⌝ }
+{
+    let r = flat_streams::init(s.head, &mut s.cells, tsn, number);
+    s.head = r.head;
+    r.reply
+}
+
+// A new stream: ordered, Reliable, and never high. Refusals: 2, 4, 5.
+#[no_mangle]
+pub extern "C" fn girdermoth_open_stream(s: &mut Sender, identifier: u16, maximum: u32) -> Reply
+    ensures { λ r. ⌜ Open identifier maximum (now (s .entry)) (now (s .exit)) r ⌝ }
+{
+    let r = flat_streams::open_stream(s.head, &mut s.cells, identifier, maximum);
+    s.head = r.head;
+    r.reply
+}
+
+// How messages that are written from now on are delivered. Refusal: 3.
+#[no_mangle]
+pub extern "C" fn girdermoth_set_reliability(
+    s: &mut Sender,
+    identifier: u16,
+    unordered: bool,
+    kind: u8,
+    value: u32,
+) -> Reply
+    ensures { λ r. ⌜ SetReliability identifier unordered kind value (now (s .entry)) (now (s .exit)) r ⌝ }
+{
+    let r = flat_streams::set_reliability(s.head, &mut s.cells, identifier, unordered, kind, value);
+    s.head = r.head;
+    r.reply
+}
+
+// Refusal: 3.
+#[no_mangle]
+pub extern "C" fn girdermoth_set_low_threshold(s: &mut Sender, identifier: u16, low: u64) -> Reply
+    ensures { λ r. ⌜ SetLow identifier low (now (s .entry)) (now (s .exit)) r ⌝ }
+{
+    let r = flat_streams::set_low_threshold(s.head, &mut s.cells, identifier, low);
+    s.head = r.head;
+    r.reply
+}
+
+// Refusal: 3.
+#[no_mangle]
+pub extern "C" fn girdermoth_set_high_threshold(s: &mut Sender, identifier: u16, high: u64) -> Reply
+    ensures { λ r. ⌜ SetHigh identifier high (now (s .entry)) (now (s .exit)) r ⌝ }
+{
+    let r = flat_streams::set_high_threshold(s.head, &mut s.cells, identifier, high);
+    s.head = r.head;
+    r.reply
+}
+
+// Bytes of a stream have left the sender; `yes` where the amount fell to the low threshold. Refusal: 3.
+#[no_mangle]
+pub extern "C" fn girdermoth_release(s: &mut Sender, identifier: u16, released: i64) -> Reply
+    ensures { λ r. ⌜ Release identifier released (now (s .entry)) (now (s .exit)) r ⌝ }
+{
+    let r = flat_streams::release(s.head, &mut s.cells, identifier, released);
+    s.head = r.head;
+    r.reply
+}
+
+// ---- messages
+
+// The caller keeps the bytes: a message is where they begin and how many they are. `yes` where the amount reached the high threshold. Refusals: 3, 6, 1, 7, 8, 9.
+#[no_mangle]
+pub extern "C" fn girdermoth_write(
+    s: &mut Sender,
+    identifier: u16,
+    protocol: u32,
+    offset: u64,
+    length: u64,
+) -> Reply
+    ensures { λ r. ⌜ Write identifier protocol offset length (now (s .entry)) (now (s .exit)) r ⌝ }
+{
+    let r = flat_messages::write(s.head, &mut s.cells, identifier, protocol, offset, length);
+    s.head = r.head;
+    r.reply
+}
+
+// Starts the lifetimes of the messages not yet seen. Refusal: 1.
+#[no_mangle]
+pub extern "C" fn girdermoth_start_lifetimes(s: &mut Sender, clock: u64) -> Reply
+    ensures { λ r. ⌜ StartLifetimes clock (now (s .entry)) (now (s .exit)) r ⌝ }
+{
+    let r = flat_messages::start_lifetimes(s.head, &mut s.cells, clock);
+    s.head = r.head;
+    r.reply
+}
+
+// The next chunk goes to the flight. Refusals: 1; 10 where a chunk is pending.
+#[no_mangle]
+pub extern "C" fn girdermoth_send(s: &mut Sender, clock: u64) -> Fragment
+    ensures { λ r. ⌜ Send clock (now (s .entry)) (now (s .exit)) r ⌝ }
+{
+    let r = flat_messages::send(s.head, &mut s.cells, clock);
+    s.head = r.head;
+    r.reply
+}
+
+// The message at the head goes if it is due, and takes no TSN. Refusal: 1.
+#[no_mangle]
+pub extern "C" fn girdermoth_expire_pending(s: &mut Sender, clock: u64) -> Freed
+    ensures { λ r. ⌜ ExpirePending clock (now (s .entry)) (now (s .exit)) r ⌝ }
+{
+    let r = flat_messages::expire_pending(s.head, &mut s.cells, clock);
+    s.head = r.head;
+    r.reply
+}
+
+// Abandons the message under way, if its rest has expired. Refusal: 1.
+#[no_mangle]
+pub extern "C" fn girdermoth_expire_pending_tail(s: &mut Sender, clock: u64) -> Freed
+    ensures { λ r. ⌜ ExpirePendingTail clock (now (s .entry)) (now (s .exit)) r ⌝ }
+{
+    let r = flat_messages::expire_pending_tail(s.head, &mut s.cells, clock);
+    s.head = r.head;
+    r.reply
+}
+
+// Abandons the message of a TSN in flight.
+#[no_mangle]
+pub extern "C" fn girdermoth_abandon(s: &mut Sender, tsn: u32) -> Freed
+    ensures { λ r. ⌜ Abandon tsn (now (s .entry)) (now (s .exit)) r ⌝ }
+{
+    let r = flat_messages::abandon(s.head, &mut s.cells, tsn);
+    s.head = r.head;
+    r.reply
+}
+
+// ---- the flight
+
+// The entry of a TSN is acknowledged; the value is the bytes that it held.
+#[no_mangle]
+pub extern "C" fn girdermoth_acknowledge(s: &mut Sender, tsn: u32) -> Reply
+    ensures { λ r. ⌜ Acknowledge tsn (now (s .entry)) (now (s .exit)) r ⌝ }
+{
+    let r = flat_flight::acknowledge(s.head, &mut s.cells, tsn);
+    s.head = r.head;
+    r.reply
+}
+
+// Takes the oldest entry, if it has this TSN.
+#[no_mangle]
+pub extern "C" fn girdermoth_pop(s: &mut Sender, tsn: u32) -> Fragment
+    ensures { λ r. ⌜ Pop tsn (now (s .entry)) (now (s .exit)) r ⌝ }
+{
+    let r = flat_flight::pop(s.head, &mut s.cells, tsn);
+    s.head = r.head;
+    r.reply
+}
+
+// Every entry that is neither acknowledged nor abandoned is to be retransmitted.
+#[no_mangle]
+pub extern "C" fn girdermoth_mark_all(s: &mut Sender) -> Reply
+    ensures { λ r. ⌜ MarkAll (now (s .entry)) (now (s .exit)) r ⌝ }
+{
+    let r = flat_flight::mark_all(s.head, &mut s.cells);
+    s.head = r.head;
+    r.reply
+}
+
+// The TSNs in flight whose message has expired, in the front of the lent list; the value is how many. The sender stays. Refusals: 1, 11.
+#[no_mangle]
+pub extern "C" fn girdermoth_expired_inflight(s: &mut Sender, list: &mut [u32], clock: u64) -> Reply
+    ensures { λ r. ⌜ ExpiredInflight (now (list .entry)) clock (now (s .entry)) (now (s .exit)) (now (list .exit)) r ⌝ }
+{
+    let r = flat_flight::expired_inflight(s.head, &mut s.cells, list, clock);
+    s.head = r.head;
+    r.reply
+}
+
+// ---- questions
+
+// The entry of a TSN.
+#[no_mangle]
+pub extern "C" fn girdermoth_get(s: &Sender, tsn: u32) -> Fragment
+    ensures { λ r. ⌜ Get tsn (now (s .entry)) r ⌝ }
+{
+    flat_asks::get(s.head, &s.cells, tsn)
+}
+
+// No for a TSN that is not in flight.
+#[no_mangle]
+pub extern "C" fn girdermoth_is_abandoned(s: &Sender, tsn: u32) -> Reply
+    ensures { λ r. ⌜ IsAbandoned tsn (now (s .entry)) r ⌝ }
+{
+    flat_asks::is_abandoned(s.head, &s.cells, tsn)
+}
+
+// The chunk that is sent next; it has no TSN yet.
+#[no_mangle]
+pub extern "C" fn girdermoth_peek_pending(s: &Sender) -> Fragment
+    ensures { λ r. ⌜ PeekPending (now (s .entry)) r ⌝ }
+{
+    flat_asks::peek_pending(s.head, &s.cells)
+}
+
+// The number of the next message.
+#[no_mangle]
+pub extern "C" fn girdermoth_next_message(s: &Sender) -> Reply
+    ensures { λ r. ⌜ NextMessage (now (s .entry)) r ⌝ }
+{
+    flat_asks::next_message(s.head, &s.cells)
+}
+
+// The TSN of the next chunk that is sent.
+#[no_mangle]
+pub extern "C" fn girdermoth_next_tsn(s: &Sender) -> Reply
+    ensures { λ r. ⌜ NextTsn (now (s .entry)) r ⌝ }
+{
+    flat_asks::next_tsn(s.head, &s.cells)
+}
+
+#[no_mangle]
+pub extern "C" fn girdermoth_pending_length(s: &Sender) -> Reply
+    ensures { λ r. ⌜ PendingLength (now (s .entry)) r ⌝ }
+{
+    flat_asks::pending_length(s.head, &s.cells)
+}
+
+#[no_mangle]
+pub extern "C" fn girdermoth_pending_bytes(s: &Sender) -> Reply
+    ensures { λ r. ⌜ PendingBytes (now (s .entry)) r ⌝ }
+{
+    flat_asks::pending_bytes(s.head, &s.cells)
+}
+
+#[no_mangle]
+pub extern "C" fn girdermoth_inflight_length(s: &Sender) -> Reply
+    ensures { λ r. ⌜ InflightLength (now (s .entry)) r ⌝ }
+{
+    flat_asks::inflight_length(s.head, &s.cells)
+}
+
+#[no_mangle]
+pub extern "C" fn girdermoth_inflight_bytes(s: &Sender) -> Reply
+    ensures { λ r. ⌜ InflightBytes (now (s .entry)) r ⌝ }
+{
+    flat_asks::inflight_bytes(s.head, &s.cells)
+}
+
+// The oldest TSN that is neither acknowledged nor abandoned, where `yes` is set.
+#[no_mangle]
+pub extern "C" fn girdermoth_earliest_outstanding(s: &Sender) -> Reply
+    ensures { λ r. ⌜ EarliestOutstanding (now (s .entry)) r ⌝ }
+{
+    flat_asks::earliest_outstanding(s.head, &s.cells)
+}
+
+// Whether a stream has chunks pending.
+#[no_mangle]
+pub extern "C" fn girdermoth_pending_contains_stream(s: &Sender, identifier: u16) -> Reply
+    ensures { λ r. ⌜ PendingContainsStream identifier (now (s .entry)) r ⌝ }
+{
+    flat_stream_asks::pending_contains_stream(s.head, &s.cells, identifier)
+}
+
+// Whether a stream has chunks pending or in flight.
+#[no_mangle]
+pub extern "C" fn girdermoth_contains_stream(s: &Sender, identifier: u16) -> Reply
+    ensures { λ r. ⌜ ContainsStream identifier (now (s .entry)) r ⌝ }
+{
+    flat_stream_asks::contains_stream(s.head, &s.cells, identifier)
+}
+
+// Refusal: 3.
+#[no_mangle]
+pub extern "C" fn girdermoth_buffered_amount(s: &Sender, identifier: u16) -> Reply
+    ensures { λ r. ⌜ BufferedAmount identifier (now (s .entry)) r ⌝ }
+{
+    flat_stream_asks::buffered_amount(s.head, &s.cells, identifier)
+}
+
+// Refusal: 3.
+#[no_mangle]
+pub extern "C" fn girdermoth_low_threshold(s: &Sender, identifier: u16) -> Reply
+    ensures { λ r. ⌜ LowThreshold identifier (now (s .entry)) r ⌝ }
+{
+    flat_stream_asks::low_threshold(s.head, &s.cells, identifier)
+}
+
+// Refusal: 3.
+#[no_mangle]
+pub extern "C" fn girdermoth_high_threshold(s: &Sender, identifier: u16) -> Reply
+    ensures { λ r. ⌜ HighThreshold identifier (now (s .entry)) r ⌝ }
+{
+    flat_stream_asks::high_threshold(s.head, &s.cells, identifier)
+}
+
+// Messages and bytes sent. Refusal: 3.
+#[no_mangle]
+pub extern "C" fn girdermoth_statistics(s: &Sender, identifier: u16) -> Counts
+    ensures { λ r. ⌜ Statistics identifier (now (s .entry)) r ⌝ }
+{
+    flat_stream_asks::statistics(s.head, &s.cells, identifier)
+}

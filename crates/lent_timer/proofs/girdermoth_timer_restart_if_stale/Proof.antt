@@ -1,0 +1,55 @@
+-- The call by value of the timer at this place, flat.
+use mathlib.Core.Path.{ap, sym, _∙_}
+use Rattle.timer_entry.specs.declared.Found.{Found}
+use Rattle.timer_entry.specs.declared.Timer.{Timer}
+use Rattle.timer.specs.declared.TimerTable.{TimerTable}
+use Rattle.timer.specs.Calls.{restartIfStaleOf}
+use Rattle.lent_timer.specs.Flat.{flatChanged, onTimer, tableOf}
+use borrow.Author.Needs.{needs}
+use Rattle.lent_timer.proofs.girdermoth_timer_restart_if_stale.Statement.{statement}
+use Rattle.lent_timer.proofs.girdermoth_timer_restart_if_stale.Tie as tie
+
+at-requires : tie.Need-at-requires
+at-requires c κs = search needs
+
+enum-known-found : tie.Need-enum-known-found
+enum-known-found c = search needs
+
+enum-told : tie.Need-enum-told
+enum-told c = search needs
+
+replied-requires : tie.Need-replied-requires
+replied-requires c κs = search needs
+
+returns : tie.Need-returns
+returns c =
+    let a = c .before .before .before .before .args in
+    c .replied .ensures ∙ ap (λ (g : Found). onTimer g (a .t) (λ (k : Timer). flatChanged (restartIfStaleOf (tableOf (a .t)) k (a .clock) (a .interval)))) (sym (c .before .enum-told .given .1) ∙ c .before .before .before .at .ensures)
+
+unpacked-requires : tie.Need-unpacked-requires
+unpacked-requires c κs = search needs
+
+restart-if-stale-requires : tie.Need-restart-if-stale-requires
+restart-if-stale-requires c κs = search needs
+
+flat-changed-requires : tie.Need-flat-changed-requires
+flat-changed-requires c κs = search needs
+
+returns-2 : tie.Need-returns-2
+returns-2 c =
+    let a = c .before .before .before .before .before .before .before .args in
+    c .flat-changed .ensures ∙ ap flatChanged (c .before .restart-if-stale .ensures ∙ ap (λ (m : TimerTable). restartIfStaleOf m (c .before .before .before .before .found .given .0 .0) (a .clock) (a .interval)) (c .before .before .unpacked .ensures)) ∙ ap (λ (g : Found). onTimer g (a .t) (λ (k : Timer). flatChanged (restartIfStaleOf (tableOf (a .t)) k (a .clock) (a .interval)))) (sym (c .before .before .before .before .found .given .1) ∙ c .before .before .before .before .before .before .at .ensures)
+
+pub girdermoth-timer-restart-if-stale-spec : {M : Type 1} → statement M
+girdermoth-timer-restart-if-stale-spec =
+    tie.close
+    (tie.spec
+    at-requires
+    enum-known-found
+    enum-told
+    replied-requires
+    returns
+    unpacked-requires
+    restart-if-stale-requires
+    flat-changed-requires
+    returns-2)

@@ -1,0 +1,123 @@
+-- The six timers as numbers alone, and 01's number and the values of each answer.
+use mathlib.Core.Bool.{Bool, true, false, not, cond}
+use mathlib.Core.List.{[], _∷_}
+use Prim.Native.Nat.{ℕ}
+use lib.Dec.{eqb}
+use lib.ListN.{getD}
+use Rattle.limits.specs.declared.Moment.{Moment}
+use Rattle.limits.specs.Refusals.{done, beyondLimit}
+use Rattle.timer_entry.specs.declared.Timer.{Timer}
+use Rattle.timer_entry.specs.declared.Found.{Found}
+use Rattle.timer_entry.specs.declared.Maximum.{Maximum}
+use Rattle.timer_entry.specs.declared.Entry.{Entry}
+use Rattle.timer_entry.specs.Entries.{idleEntry}
+use Rattle.timer.specs.declared.TimerTable.{TimerTable}
+use Rattle.timer.specs.declared.Answer.{Answer}
+use Rattle.timer.specs.declared.Expiry.{Expiry}
+use Rattle.timer.specs.declared.Changed.{Changed}
+use Rattle.timer.specs.declared.Checked.{Checked}
+use Rattle.lent_timer.specs.declared.FlatTimer.{FlatTimer}
+use Rattle.lent_timer.specs.declared.Timers.{Timers}
+use Rattle.lent_timer.specs.declared.TimersReply.{TimersReply}
+use Rattle.lent_timer.specs.declared.Due.{Due}
+
+-- ---- what the numbers mean
+
+-- any byte but 0 is yes
+abbrev pub isSet : ℕ → Bool
+isSet n = not (eqb n 0)
+
+abbrev pub momentOf : (is : Bool) → (time : ℕ) → Moment
+momentOf true t = Moment.At t
+momentOf false t = Moment.Absent
+
+abbrev pub maximumOf : (is : Bool) → (most : ℕ) → Maximum
+maximumOf true m = Maximum.Of m
+maximumOf false m = Maximum.Unlimited
+
+abbrev pub entryOf : FlatTimer → Entry
+entryOf f =
+    record { deadline = momentOf (isSet (f .«has_deadline»)) (f .deadline); retrans = f .retrans; maximum = maximumOf (isSet (f .«has_maximum»)) (f .maximum); suppressed = isSet (f .suppressed) }
+
+abbrev pub tableOf : Timers → TimerTable
+tableOf t =
+    record {
+      entries = entryOf (t .«t1_init») ∷ entryOf (t .«t1_cookie») ∷ entryOf (t .«t2_shutdown») ∷ entryOf (t .«t3_rtx») ∷ entryOf (t .reconfig) ∷ entryOf (t .ack) ∷ [];
+      «rto_max» = t .«rto_max»;
+    }
+
+-- ---- and back
+
+abbrev pub bit : Bool → ℕ
+bit true = 1
+bit false = 0
+
+abbrev pub present : Moment → Bool
+present Moment.Absent = false
+present (Moment.At t) = true
+
+abbrev pub timeOf : Moment → ℕ
+timeOf Moment.Absent = 0
+timeOf (Moment.At t) = t
+
+abbrev pub limited : Maximum → Bool
+limited Maximum.Unlimited = false
+limited (Maximum.Of m) = true
+
+abbrev pub mostOf : Maximum → ℕ
+mostOf Maximum.Unlimited = 0
+mostOf (Maximum.Of m) = m
+
+abbrev pub flatWith : (deadline maximum retrans hasDeadline hasMaximum suppressed : ℕ) → FlatTimer
+flatWith d m r b c s = record { deadline = d; maximum = m; retrans = r; «has_deadline» = b; «has_maximum» = c; suppressed = s }
+
+abbrev pub flatEntry : Entry → FlatTimer
+flatEntry e = flatWith (timeOf (e .deadline)) (mostOf (e .maximum)) (e .retrans) (bit (present (e .deadline))) (bit (limited (e .maximum))) (bit (e .suppressed))
+
+-- the i-th of the six
+abbrev pub nth : ℕ → TimerTable → Entry
+nth i t = getD (t .entries) i (idleEntry Maximum.Unlimited)
+
+abbrev pub timersOf : (a b c d e f : FlatTimer) → ℕ → Timers
+timersOf a b c d e f x = record { «t1_init» = a; «t1_cookie» = b; «t2_shutdown» = c; «t3_rtx» = d; reconfig = e; ack = f; «rto_max» = x }
+
+abbrev pub flatTable : TimerTable → Timers
+flatTable t = timersOf (flatEntry (nth 0 t)) (flatEntry (nth 1 t)) (flatEntry (nth 2 t)) (flatEntry (nth 3 t)) (flatEntry (nth 4 t)) (flatEntry (nth 5 t)) (t .«rto_max»)
+
+-- ---- answers
+
+abbrev pub reply : Timers → (refusal count : ℕ) → (expired failure : Bool) → TimersReply
+reply t n k e f = record { timers = t; count = k; refusal = n; expired = e; failure = f }
+
+-- 01's number alone
+abbrev pub only : Timers → ℕ → TimersReply
+only t n = reply t n 0 false false
+
+abbrev pub numberOf : Answer → ℕ
+numberOf Answer.Done = done
+numberOf (Answer.Refused n) = n
+
+abbrev pub flatChanged : Changed → TimersReply
+flatChanged c = only (flatTable (c .table)) (numberOf (c .answer))
+
+abbrev pub flatExpiry : Timers → Expiry → TimersReply
+flatExpiry t (Expiry.Told e f k) = reply t done k e f
+flatExpiry t (Expiry.Refused n) = only t n
+
+abbrev pub flatChecked : Checked → TimersReply
+flatChecked c = flatExpiry (flatTable (c .table)) (c .answer)
+
+abbrev pub dueWith : ℕ → Bool → Due
+dueWith t b = record { value = t; refusal = done; yes = b }
+
+abbrev pub flatDue : Moment → Due
+flatDue m = dueWith (timeOf m) (present m)
+
+-- a timer by its place among the six; 1 where it is none of them
+abbrev pub onTimer : Found → Timers → (Timer → TimersReply) → TimersReply
+onTimer (Found.Value k) t f = f k
+onTimer Found.Nothing t f = only t beyondLimit
+
+abbrev pub dueOn : Found → (Timer → Due) → Due
+dueOn (Found.Value k) f = f k
+dueOn Found.Nothing f = record { value = 0; refusal = beyondLimit; yes = false }
