@@ -1,8 +1,8 @@
--- `flat::of_chunk` meets its contract. The moments are what `is_present` and `time_of` say, and all else is copied.
-use Rattle.flat.specs.Replies.{fragmentWith}
+-- `flat_replies::of_chunk` meets its contract. The moments are what `is_present` and `time_of` say, and all else is copied.
+use Rattle.flat_replies.specs.Replies.{fragmentWith}
 use borrow.Author.Needs.{needs}
-use Rattle.flat.proofs.of_chunk.Statement.{statement}
-use Rattle.flat.proofs.of_chunk.Tie as tie
+use Rattle.flat_replies.proofs.of_chunk.Statement.{statement}
+use Rattle.flat_replies.proofs.of_chunk.Tie as tie
 
 is-present-requires : tie.Need-is-present-requires
 is-present-requires c κs = search needs

@@ -1,9 +1,9 @@
--- `flat::earliest` meets its contract. Each variant is what `flatEarliest` says of it.
+-- `flat_replies::earliest` meets its contract. Each variant is what `flatEarliest` says of it.
 use mathlib.Core.Path.{ap, sym, _∙_}
-use Rattle.flat.specs.Replies.{flatEarliest}
+use Rattle.flat_replies.specs.Replies.{flatEarliest}
 use borrow.Author.Needs.{needs}
-use Rattle.flat.proofs.earliest.Statement.{statement}
-use Rattle.flat.proofs.earliest.Tie as tie
+use Rattle.flat_replies.proofs.earliest.Statement.{statement}
+use Rattle.flat_replies.proofs.earliest.Tie as tie
 
 enum-known-a : tie.Need-enum-known-a
 enum-known-a c = search needs

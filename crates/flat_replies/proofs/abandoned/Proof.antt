@@ -1,9 +1,9 @@
--- `flat::abandoned` meets its contract. Each variant is what `flatAbandoned` says of it.
+-- `flat_replies::abandoned` meets its contract. Each variant is what `flatAbandoned` says of it.
 use mathlib.Core.Path.{ap, sym, _∙_}
-use Rattle.flat.specs.Replies.{flatAbandoned}
+use Rattle.flat_replies.specs.Replies.{flatAbandoned}
 use borrow.Author.Needs.{needs}
-use Rattle.flat.proofs.abandoned.Statement.{statement}
-use Rattle.flat.proofs.abandoned.Tie as tie
+use Rattle.flat_replies.proofs.abandoned.Statement.{statement}
+use Rattle.flat_replies.proofs.abandoned.Tie as tie
 
 enum-known-a : tie.Need-enum-known-a
 enum-known-a c = search needs

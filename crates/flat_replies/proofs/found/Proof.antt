@@ -1,9 +1,9 @@
--- `flat::found` meets its contract. Each variant is what `flatFound` says of it.
+-- `flat_replies::found` meets its contract. Each variant is what `flatFound` says of it.
 use mathlib.Core.Path.{ap, sym, _∙_}
-use Rattle.flat.specs.Replies.{flatFound}
+use Rattle.flat_replies.specs.Replies.{flatFound}
 use borrow.Author.Needs.{needs}
-use Rattle.flat.proofs.found.Statement.{statement}
-use Rattle.flat.proofs.found.Tie as tie
+use Rattle.flat_replies.proofs.found.Statement.{statement}
+use Rattle.flat_replies.proofs.found.Tie as tie
 
 enum-known-a : tie.Need-enum-known-a
 enum-known-a c = search needs

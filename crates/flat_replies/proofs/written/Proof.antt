@@ -1,9 +1,9 @@
--- `flat::written` meets its contract. Each variant is what `flatWritten` says of it.
+-- `flat_replies::written` meets its contract. Each variant is what `flatWritten` says of it.
 use mathlib.Core.Path.{ap, sym, _∙_}
-use Rattle.flat.specs.Replies.{flatWritten}
+use Rattle.flat_replies.specs.Replies.{flatWritten}
 use borrow.Author.Needs.{needs}
-use Rattle.flat.proofs.written.Statement.{statement}
-use Rattle.flat.proofs.written.Tie as tie
+use Rattle.flat_replies.proofs.written.Statement.{statement}
+use Rattle.flat_replies.proofs.written.Tie as tie
 
 enum-known-a : tie.Need-enum-known-a
 enum-known-a c = search needs

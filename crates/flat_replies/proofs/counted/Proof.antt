@@ -1,9 +1,9 @@
--- `flat::counted` meets its contract. Each variant is what `flatCounted` says of it.
+-- `flat_replies::counted` meets its contract. Each variant is what `flatCounted` says of it.
 use mathlib.Core.Path.{ap, sym}
-use Rattle.flat.specs.Replies.{flatCounted}
+use Rattle.flat_replies.specs.Replies.{flatCounted}
 use borrow.Author.Needs.{needs}
-use Rattle.flat.proofs.counted.Statement.{statement}
-use Rattle.flat.proofs.counted.Tie as tie
+use Rattle.flat_replies.proofs.counted.Statement.{statement}
+use Rattle.flat_replies.proofs.counted.Tie as tie
 
 enum-known-a : tie.Need-enum-known-a
 enum-known-a c = search needs

@@ -1,9 +1,9 @@
--- `flat::released` meets its contract. Each variant is what `flatReleased` says of it.
+-- `flat_replies::released` meets its contract. Each variant is what `flatReleased` says of it.
 use mathlib.Core.Path.{ap, sym, _∙_}
-use Rattle.flat.specs.Replies.{flatReleased}
+use Rattle.flat_replies.specs.Replies.{flatReleased}
 use borrow.Author.Needs.{needs}
-use Rattle.flat.proofs.released.Statement.{statement}
-use Rattle.flat.proofs.released.Tie as tie
+use Rattle.flat_replies.proofs.released.Statement.{statement}
+use Rattle.flat_replies.proofs.released.Tie as tie
 
 enum-known-a : tie.Need-enum-known-a
 enum-known-a c = search needs

@@ -1,9 +1,9 @@
--- `flat::sent` meets its contract. Each variant is what `flatSent` says of it.
+-- `flat_replies::sent` meets its contract. Each variant is what `flatSent` says of it.
 use mathlib.Core.Path.{ap, sym, _∙_}
-use Rattle.flat.specs.Replies.{flatSent}
+use Rattle.flat_replies.specs.Replies.{flatSent}
 use borrow.Author.Needs.{needs}
-use Rattle.flat.proofs.sent.Statement.{statement}
-use Rattle.flat.proofs.sent.Tie as tie
+use Rattle.flat_replies.proofs.sent.Statement.{statement}
+use Rattle.flat_replies.proofs.sent.Tie as tie
 
 enum-known-a : tie.Need-enum-known-a
 enum-known-a c = search needs

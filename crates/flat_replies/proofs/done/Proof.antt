@@ -1,9 +1,9 @@
--- `flat::done` meets its contract. Each variant is what `flatDone` says of it.
+-- `flat_replies::done` meets its contract. Each variant is what `flatDone` says of it.
 use mathlib.Core.Path.{ap, sym, _∙_}
-use Rattle.flat.specs.Replies.{flatDone}
+use Rattle.flat_replies.specs.Replies.{flatDone}
 use borrow.Author.Needs.{needs}
-use Rattle.flat.proofs.done.Statement.{statement}
-use Rattle.flat.proofs.done.Tie as tie
+use Rattle.flat_replies.proofs.done.Statement.{statement}
+use Rattle.flat_replies.proofs.done.Tie as tie
 
 enum-told : tie.Need-enum-told
 enum-told c = search needs
