@@ -1,7 +1,7 @@
 #!/usr/bin/env python3
 # Writes crates/walkkit/proofs/OnHead.antt. The text of a walk names the entries of its context by their positions; this script
 # keeps the context as a list of labels, so that a further parameter or another order of statements costs no counting.
-#     python3 tools/mkhead.py > crates/walkkit/proofs/OnHead.antt
+#     python3 tools/mkhead.py > crates/walkkit/proofs/OnHead.antt        then `rt fmt`
 import sys
 
 SUB = '₀₁₂₃₄₅₆₇₈₉'

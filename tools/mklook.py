@@ -1,6 +1,6 @@
 #!/usr/bin/env python3
-# Writes crates/walkkit/proofs/OnLook.antt: queries over a state of a head and cells, through a `&mut` or a `&`.
-#     python3 tools/mklook.py > crates/walkkit/proofs/OnLook.antt
+# Writes crates/walkkit/proofs/OnLook.antt: questions over a state of a head and cells, through a `&` (or, where asked for, a `&mut`).
+#     python3 tools/mklook.py > crates/walkkit/proofs/OnLook.antt        then `rt fmt`
 import sys
 from mkhead import Ctx, params, nest, acc, prod, lst
 
@@ -129,11 +129,10 @@ def gen(name, k, how):
     w('        (λ κs qs bounds a _ are. walk%s (κs .0) (qs .0) (a .0 .ptr .0) (a .0 .ptr .1) (a .0 .name) (a .0 .now)%s 𝓣 known))\n' % (name, ''.join(' ' + p.pass_(acc(p.i)) for p in ps)))
     return '\n'.join(o)
 
-HEAD = '''-- Queries over a state of a head and cells (`OnHead.antt`'s `State`), which lend the cells for reading:
---     fn f(s: &mut R, x₁: X₁, …) -> N { g(s.head, &s.cells, x₁, …) }        on-look-k, for k further parameters of plain data
---     fn f(s: &R, x₁: X₁, …) -> N { g(s.head, &s.cells, x₁, …) }            on-shared-k
+HEAD = '''-- Questions over a state of a head and cells (`OnHead.antt`'s `State`), which lend the cells for reading:
+--     fn f(s: &R, x₁: X₁, …) -> N { g(s.head, &s.cells, x₁, …) }            on-shared-k, for k further parameters of plain data, k 0 or 1
 -- over a covered g(head: D, cells: &[u64], x₁: X₁, …) -> N. Neither has a `requires`.
--- It says nothing of the crate. Assumes `Given`. Written by tools/mklook.py.
+-- It says nothing of the crate. Assumes `Given`. Written by tools/mklook.py (and `rt fmt`).
 '''
 if __name__ == '__main__':
     head = open(sys.path[0] + '/OnHead.head').read()

@@ -65,6 +65,19 @@ static any run(girdermoth_sender *s, int call, const args *x, uint32_t *list) {
 static void garbage(void *p, size_t n) { for (size_t i = 0; i < n; i++) ((uint8_t *)p)[i] = rnd() >> 32; }
 static uint32_t *lent(size_t room) { uint32_t *l = malloc(room * 4 + (room == 0)); for (size_t i = 0; i < room; i++) l[i] = 7; return l; }
 
+// Writes and sends without a release until the buffered amount is at its limit, 65,535 times 65,536 bytes and 65,535 more.
+static void fill(girdermoth_sender *s) {
+    girdermoth_init(s, 5, 0); girdermoth_open_stream(s, 9, 65515);
+    for (int i = 0; i < 65535; i++) {
+        want(girdermoth_write(s, 9, 53, 0, 65536).refusal == GIRDERMOTH_DONE, "a write below the limit", 6);
+        for (int k = 0; k < 2; k++) { girdermoth_fragment c = girdermoth_send(s, i); girdermoth_acknowledge(s, c.tsn); want(girdermoth_pop(s, c.tsn).acked, "sent, acknowledged and popped", 13); calls += 3; }
+    }
+    want(girdermoth_write(s, 9, 53, 0, 65536).refusal == GIRDERMOTH_BUFFER_FULL, "one byte beyond the limit", 6); refusals[7]++;
+    want(girdermoth_write(s, 9, 53, 0, 65535).refusal == GIRDERMOTH_DONE && girdermoth_buffered_amount(s, 9).value == UINT32_MAX, "at the limit", 6);
+    girdermoth_counts n = girdermoth_statistics(s, 9);
+    want(n.messages == 65536 && n.bytes == UINT32_MAX, "statistics", 31);
+}
+
 int main(int argc, char **argv) {
     long turns = argc > 1 ? atol(argv[1]) : 2000;
     struct { uint64_t front[8]; girdermoth_sender s; uint64_t back[8]; } *g = malloc(sizeof *g);
@@ -115,6 +128,7 @@ int main(int argc, char **argv) {
         }
         for (int i = 0; i < 8; i++) want(g->front[i] == 0xA5A5A5A5A5A5A5A5u && g->back[i] == 0xA5A5A5A5A5A5A5A5u, "a canary", -1);
     }
+    if (turns >= 4000) fill(s);
     printf("%ld calls: %ld wrong; refusals", calls, bad);
     for (int i = 1; i < 13; i++) printf(" %d:%ld", i, refusals[i]);
     puts("");

@@ -10,7 +10,7 @@ use Rattle.flat.specs.declared.FlatHead.{FlatHead}
 use Rattle.flat.specs.declared.Reply.{Reply}
 use Rattle.flat.specs.declared.Fragment.{Fragment}
 use Rattle.flat.specs.Heads.{stateOf, Sums}
-use Rattle.flat.specs.Replies.{yesOrNo, numberIs, flatFound, flatEarliest}
+use Rattle.flat_replies.specs.Replies.{yesOrNo, numberIs, flatFound, flatEarliest}
 
 abbrev pub Gets : (tsn : ℕ) → FlatHead → List ℕ → Fragment → Type 0
 Gets tsn h ws y = y ≡ flatFound tsn (found (inFlight tsn (stateOf h ws .flight)))

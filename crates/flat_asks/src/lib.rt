@@ -10,7 +10,7 @@ pub fn get(head: FlatHead, cells: &[u64], tsn: u32) -> Fragment
 {
     let unpacked = flat::unpacked(head);
     let answer = sender_flight_asks::get(unpacked, cells, tsn);
-    flat::found(tsn, answer)
+    flat_replies::found(tsn, answer)
 }
 
 pub fn is_abandoned(head: FlatHead, cells: &[u64], tsn: u32) -> Reply
@@ -18,7 +18,7 @@ pub fn is_abandoned(head: FlatHead, cells: &[u64], tsn: u32) -> Reply
 {
     let unpacked = flat::unpacked(head);
     let answer = sender_flight_asks::is_abandoned(unpacked, cells, tsn);
-    flat::yes_or_no(answer)
+    flat_replies::yes_or_no(answer)
 }
 
 // The chunk that is sent next; it has no TSN yet.
@@ -27,7 +27,7 @@ pub fn peek_pending(head: FlatHead, cells: &[u64]) -> Fragment
 {
     let unpacked = flat::unpacked(head);
     let answer = sender_asks::peek_pending(unpacked, cells);
-    flat::found(0, answer)
+    flat_replies::found(0, answer)
 }
 
 pub fn next_message(head: FlatHead, cells: &[u64]) -> Reply
@@ -35,7 +35,7 @@ pub fn next_message(head: FlatHead, cells: &[u64]) -> Reply
 {
     let unpacked = flat::unpacked(head);
     let answer = sender_asks::next_message(unpacked);
-    flat::number(answer)
+    flat_replies::number(answer)
 }
 
 pub fn next_tsn(head: FlatHead, cells: &[u64]) -> Reply
@@ -43,7 +43,7 @@ pub fn next_tsn(head: FlatHead, cells: &[u64]) -> Reply
 {
     let unpacked = flat::unpacked(head);
     let answer = sender_flight_asks::next_tsn(unpacked, cells);
-    flat::number(answer as u64)
+    flat_replies::number(answer as u64)
 }
 
 pub fn pending_length(head: FlatHead, cells: &[u64]) -> Reply
@@ -51,7 +51,7 @@ pub fn pending_length(head: FlatHead, cells: &[u64]) -> Reply
 {
     let unpacked = flat::unpacked(head);
     let answer = sender_asks::pending_length(unpacked, cells);
-    flat::number(answer as u64)
+    flat_replies::number(answer as u64)
 }
 
 pub fn pending_bytes(head: FlatHead, cells: &[u64]) -> Reply
@@ -59,7 +59,7 @@ pub fn pending_bytes(head: FlatHead, cells: &[u64]) -> Reply
 {
     let unpacked = flat::unpacked(head);
     let answer = sender_asks::pending_bytes(unpacked);
-    flat::number(answer)
+    flat_replies::number(answer)
 }
 
 pub fn inflight_length(head: FlatHead, cells: &[u64]) -> Reply
@@ -67,7 +67,7 @@ pub fn inflight_length(head: FlatHead, cells: &[u64]) -> Reply
 {
     let unpacked = flat::unpacked(head);
     let answer = sender_flight_asks::inflight_length(unpacked, cells);
-    flat::number(answer as u64)
+    flat_replies::number(answer as u64)
 }
 
 pub fn inflight_bytes(head: FlatHead, cells: &[u64]) -> Reply
@@ -75,7 +75,7 @@ pub fn inflight_bytes(head: FlatHead, cells: &[u64]) -> Reply
 {
     let unpacked = flat::unpacked(head);
     let answer = sender_flight_asks::inflight_bytes(unpacked);
-    flat::number(answer)
+    flat_replies::number(answer)
 }
 
 pub fn earliest_outstanding(head: FlatHead, cells: &[u64]) -> Reply
@@ -83,5 +83,5 @@ pub fn earliest_outstanding(head: FlatHead, cells: &[u64]) -> Reply
 {
     let unpacked = flat::unpacked(head);
     let answer = sender_flight_asks::earliest_outstanding(unpacked, cells);
-    flat::earliest(answer)
+    flat_replies::earliest(answer)
 }

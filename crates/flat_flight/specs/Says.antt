@@ -17,7 +17,7 @@ use Rattle.flat.specs.declared.FlatHead.{FlatHead}
 use Rattle.flat.specs.declared.Reply.{Reply}
 use Rattle.flat.specs.declared.Fragment.{Fragment}
 use Rattle.flat.specs.Heads.{headOf, stateOf, Sums}
-use Rattle.flat.specs.Replies.{onlyNumber, numberIs, flatFound, flatListed}
+use Rattle.flat_replies.specs.Replies.{onlyNumber, numberIs, flatFound, flatListed}
 use Rattle.flat.specs.Calls.{Goes}
 
 abbrev pub Acknowledges : (tsn : ℕ) → FlatHead → List ℕ → FlatHead → List ℕ → Reply → Type 0

@@ -12,7 +12,7 @@ pub fn acknowledge(head: FlatHead, cells: &mut [u64], tsn: u32) -> Said
     let unpacked = flat::unpacked(head);
     let after = sender_inflight::acknowledge(unpacked, cells, tsn);
     let bytes = after.bytes as u64;
-    let reply = flat::number(bytes);
+    let reply = flat_replies::number(bytes);
     let rest = after.head;
     let packed = flat::packed(rest);
     Said {
@@ -27,7 +27,7 @@ pub fn pop(head: FlatHead, cells: &mut [u64], tsn: u32) -> SaidFragment
     let unpacked = flat::unpacked(head);
     let after = sender_inflight::pop(unpacked, cells, tsn);
     let front = after.front;
-    let reply = flat::found(tsn, front);
+    let reply = flat_replies::found(tsn, front);
     let rest = after.head;
     let packed = flat::packed(rest);
     SaidFragment {
@@ -41,7 +41,7 @@ pub fn mark_all(head: FlatHead, cells: &mut [u64]) -> Said
 {
     let unpacked = flat::unpacked(head);
     sender_inflight::mark_all(unpacked, cells);
-    let reply = flat::only(0);
+    let reply = flat_replies::only(0);
     Said {
         head: head,
         reply: reply,
@@ -54,7 +54,7 @@ pub fn expired_inflight(head: FlatHead, cells: &mut [u64], list: &mut [u32], clo
 {
     let unpacked = flat::unpacked(head);
     let answer = sender_inflight::expired_inflight(unpacked, cells, clock, list);
-    let reply = flat::listed(answer);
+    let reply = flat_replies::listed(answer);
     Said {
         head: head,
         reply: reply,

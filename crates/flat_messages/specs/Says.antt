@@ -11,7 +11,7 @@ use Rattle.flat.specs.declared.FlatHead.{FlatHead}
 use Rattle.flat.specs.declared.Reply.{Reply}
 use Rattle.flat.specs.declared.Fragment.{Fragment}
 use Rattle.flat.specs.declared.Freed.{Freed}
-use Rattle.flat.specs.Replies.{flatDone, flatWritten, flatSent, flatExpired, flatTail, flatAbandoned}
+use Rattle.flat_replies.specs.Replies.{flatDone, flatWritten, flatSent, flatExpired, flatTail, flatAbandoned}
 use Rattle.flat.specs.Calls.{Goes, Leans}
 
 abbrev pub Writes : Room → (identifier protocol offset length : ℕ) → FlatHead → List ℕ → FlatHead → List ℕ → Reply → Type 0

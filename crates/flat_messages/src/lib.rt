@@ -21,7 +21,7 @@ pub fn write(
     let unpacked = flat::unpacked(head);
     let after = sender_write::write(unpacked, cells, identifier, protocol, offset, length);
     let answer = after.answer;
-    let reply = flat::written(answer);
+    let reply = flat_replies::written(answer);
     let rest = after.head;
     let packed = flat::packed(rest);
     Said {
@@ -37,7 +37,7 @@ pub fn start_lifetimes(head: FlatHead, cells: &mut [u64], clock: u64) -> Said
     let unpacked = flat::unpacked(head);
     let after = sender_queue::start_lifetimes(unpacked, cells, clock);
     let answer = after.answer;
-    let reply = flat::done(answer);
+    let reply = flat_replies::done(answer);
     let rest = after.head;
     let packed = flat::packed(rest);
     Said {
@@ -53,7 +53,7 @@ pub fn send(head: FlatHead, cells: &mut [u64], clock: u64) -> SaidFragment
     let unpacked = flat::unpacked(head);
     let after = sender_queue::send(unpacked, cells, clock);
     let answer = after.answer;
-    let reply = flat::sent(answer);
+    let reply = flat_replies::sent(answer);
     let rest = after.head;
     let packed = flat::packed(rest);
     SaidFragment {
@@ -69,7 +69,7 @@ pub fn expire_pending(head: FlatHead, cells: &mut [u64], clock: u64) -> SaidFree
     let unpacked = flat::unpacked(head);
     let after = sender_expiry::expire_pending(unpacked, cells, clock);
     let answer = after.answer;
-    let reply = flat::expired(answer);
+    let reply = flat_replies::expired(answer);
     let rest = after.head;
     let packed = flat::packed(rest);
     SaidFreed {
@@ -85,7 +85,7 @@ pub fn expire_pending_tail(head: FlatHead, cells: &mut [u64], clock: u64) -> Sai
     let unpacked = flat::unpacked(head);
     let after = sender_queue::expire_pending_tail(unpacked, cells, clock);
     let answer = after.answer;
-    let reply = flat::tail(answer);
+    let reply = flat_replies::tail(answer);
     let rest = after.head;
     let packed = flat::packed(rest);
     SaidFreed {
@@ -100,7 +100,7 @@ pub fn abandon(head: FlatHead, cells: &mut [u64], tsn: u32) -> SaidFreed
     let unpacked = flat::unpacked(head);
     let after = sender_queue::abandon(unpacked, cells, tsn);
     let answer = after.answer;
-    let reply = flat::abandoned(answer);
+    let reply = flat_replies::abandoned(answer);
     let rest = after.head;
     let packed = flat::packed(rest);
     SaidFreed {

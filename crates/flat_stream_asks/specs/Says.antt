@@ -8,7 +8,7 @@ use Rattle.flat.specs.declared.FlatHead.{FlatHead}
 use Rattle.flat.specs.declared.Reply.{Reply}
 use Rattle.flat.specs.declared.Counts.{Counts}
 use Rattle.flat.specs.Heads.{stateOf}
-use Rattle.flat.specs.Replies.{yesOrNo, flatAmount, flatCounted}
+use Rattle.flat_replies.specs.Replies.{yesOrNo, flatAmount, flatCounted}
 
 abbrev pub PendingContains : (identifier : ℕ) → FlatHead → List ℕ → Reply → Type 0
 PendingContains id h ws y = y ≡ yesOrNo (hasStream id (stateOf h ws .pending .unordered ++ stateOf h ws .pending .ordered))

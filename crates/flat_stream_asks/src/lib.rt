@@ -10,7 +10,7 @@ pub fn pending_contains_stream(head: FlatHead, cells: &[u64], identifier: u16) -
 {
     let unpacked = flat::unpacked(head);
     let answer = sender_asks::pending_contains_stream(unpacked, cells, identifier);
-    flat::yes_or_no(answer)
+    flat_replies::yes_or_no(answer)
 }
 
 // Whether it has chunks pending or in flight.
@@ -19,7 +19,7 @@ pub fn contains_stream(head: FlatHead, cells: &[u64], identifier: u16) -> Reply
 {
     let unpacked = flat::unpacked(head);
     let answer = sender_asks::contains_stream(unpacked, cells, identifier);
-    flat::yes_or_no(answer)
+    flat_replies::yes_or_no(answer)
 }
 
 // Refusal: 3.
@@ -28,7 +28,7 @@ pub fn buffered_amount(head: FlatHead, cells: &[u64], identifier: u16) -> Reply
 {
     let unpacked = flat::unpacked(head);
     let answer = sender_stream_asks::buffered_amount(unpacked, cells, identifier);
-    flat::amount(answer)
+    flat_replies::amount(answer)
 }
 
 // Refusal: 3.
@@ -37,7 +37,7 @@ pub fn low_threshold(head: FlatHead, cells: &[u64], identifier: u16) -> Reply
 {
     let unpacked = flat::unpacked(head);
     let answer = sender_stream_asks::low_threshold(unpacked, cells, identifier);
-    flat::amount(answer)
+    flat_replies::amount(answer)
 }
 
 // Refusal: 3.
@@ -46,7 +46,7 @@ pub fn high_threshold(head: FlatHead, cells: &[u64], identifier: u16) -> Reply
 {
     let unpacked = flat::unpacked(head);
     let answer = sender_stream_asks::high_threshold(unpacked, cells, identifier);
-    flat::amount(answer)
+    flat_replies::amount(answer)
 }
 
 // Refusal: 3.
@@ -55,5 +55,5 @@ pub fn statistics(head: FlatHead, cells: &[u64], identifier: u16) -> Counts
 {
     let unpacked = flat::unpacked(head);
     let answer = sender_stream_asks::statistics(unpacked, cells, identifier);
-    flat::counted(answer)
+    flat_replies::counted(answer)
 }

@@ -11,7 +11,7 @@ use Rattle.model.specs.Streams.{openStream, setReliability, setLow, setHigh, re
 use Rattle.flat.specs.declared.FlatHead.{FlatHead}
 use Rattle.flat.specs.declared.Reply.{Reply}
 use Rattle.flat.specs.Heads.{stateOf, Sums}
-use Rattle.flat.specs.Replies.{onlyNumber, flatDone, flatReleased}
+use Rattle.flat_replies.specs.Replies.{onlyNumber, flatDone, flatReleased}
 use Rattle.flat.specs.Calls.{Goes}
 
 abbrev pub Inits : (tsn number : ℕ) → FlatHead → List ℕ → FlatHead → List ℕ → Reply → Type 0

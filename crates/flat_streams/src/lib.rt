@@ -10,7 +10,7 @@ pub fn init(head: FlatHead, cells: &mut [u64], tsn: u32, number: u64) -> Said
 {
     let fresh = sender_head::new(tsn, number);
     let packed = flat::packed(fresh);
-    let reply = flat::only(0);
+    let reply = flat_replies::only(0);
     Said {
         head: packed,
         reply: reply,
@@ -24,7 +24,7 @@ pub fn open_stream(head: FlatHead, cells: &mut [u64], identifier: u16, maximum: 
     let unpacked = flat::unpacked(head);
     let after = sender_streams::open_stream(unpacked, cells, identifier, maximum);
     let answer = after.answer;
-    let reply = flat::done(answer);
+    let reply = flat_replies::done(answer);
     let rest = after.head;
     let packed = flat::packed(rest);
     Said {
@@ -53,7 +53,7 @@ pub fn set_reliability(
         kind,
         value,
     );
-    let reply = flat::done(answer);
+    let reply = flat_replies::done(answer);
     Said {
         head: head,
         reply: reply,
@@ -66,7 +66,7 @@ pub fn set_low_threshold(head: FlatHead, cells: &mut [u64], identifier: u16, low
 {
     let unpacked = flat::unpacked(head);
     let answer = sender_streams::set_low_threshold(unpacked, cells, identifier, low);
-    let reply = flat::done(answer);
+    let reply = flat_replies::done(answer);
     Said {
         head: head,
         reply: reply,
@@ -79,7 +79,7 @@ pub fn set_high_threshold(head: FlatHead, cells: &mut [u64], identifier: u16, hi
 {
     let unpacked = flat::unpacked(head);
     let answer = sender_streams::set_high_threshold(unpacked, cells, identifier, high);
-    let reply = flat::done(answer);
+    let reply = flat_replies::done(answer);
     Said {
         head: head,
         reply: reply,
@@ -92,7 +92,7 @@ pub fn release(head: FlatHead, cells: &mut [u64], identifier: u16, released: i64
 {
     let unpacked = flat::unpacked(head);
     let answer = sender_streams::release(unpacked, cells, identifier, released);
-    let reply = flat::released(answer);
+    let reply = flat_replies::released(answer);
     Said {
         head: head,
         reply: reply,

@@ -1,8 +1,8 @@
 -- The round-trip estimator as numbers alone, and 01's number and the values of each answer.
+use mathlib.Core.Path.{_≡_, refl}
 use mathlib.Core.Bool.{Bool, true, false, not}
 use Prim.Native.Nat.{ℕ}
 use lib.Dec.{eqb}
-use lib.Ieee.{Float}
 use Rattle.limits.specs.Refusals.{done}
 use Rattle.rto.specs.declared.RtoManager.{RtoManager}
 use Rattle.rto.specs.declared.Made.{Made}
@@ -40,6 +40,15 @@ flatWith m b =
 
 abbrev pub flatRto : RtoManager → Rto
 flatRto m = flatWith m (bit (m .«no_update»))
+
+-- nothing is lost: what was packed means what it was
+set-is : (b : Bool) → isSet (bit b) ≡ b
+set-is true = refl
+set-is false = refl
+
+pub manager-is : (m : RtoManager) → managerOf (flatRto m) ≡ m
+manager-is m =
+    λ i. record { srtt = m .srtt; rttvar = m .rttvar; rto = m .rto; «no_update» = set-is (m .«no_update») i; «rto_initial» = m .«rto_initial»; «rto_min» = m .«rto_min»; «rto_max» = m .«rto_max» }
 
 -- all numbers 0
 abbrev pub noRto : Rto

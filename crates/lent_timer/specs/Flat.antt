@@ -1,9 +1,11 @@
 -- The six timers as numbers alone, and 01's number and the values of each answer.
-use mathlib.Core.Bool.{Bool, true, false, not, cond}
-use mathlib.Core.List.{[], _∷_}
+use mathlib.Core.Path.{_≡_, refl, _∙_}
+use mathlib.Core.Bool.{Bool, true, false, not}
+use mathlib.Core.List.{List, [], _∷_}
 use Prim.Native.Nat.{ℕ}
+use native.Mathlib.Omega.{arith}
 use lib.Dec.{eqb}
-use lib.ListN.{getD}
+use lib.ListN.{length, getD}
 use Rattle.limits.specs.declared.Moment.{Moment}
 use Rattle.limits.specs.Refusals.{done, beyondLimit}
 use Rattle.timer_entry.specs.declared.Timer.{Timer}
@@ -83,6 +85,38 @@ timersOf a b c d e f x = record { «t1_init» = a; «t1_cookie» = b; «t2_shutd
 
 abbrev pub flatTable : TimerTable → Timers
 flatTable t = timersOf (flatEntry (nth 0 t)) (flatEntry (nth 1 t)) (flatEntry (nth 2 t)) (flatEntry (nth 3 t)) (flatEntry (nth 4 t)) (flatEntry (nth 5 t)) (t .«rto_max»)
+
+-- nothing is lost: what was packed means what it was
+set-is : (b : Bool) → isSet (bit b) ≡ b
+set-is true = refl
+set-is false = refl
+
+moment-is : (m : Moment) → momentOf (isSet (bit (present m))) (timeOf m) ≡ m
+moment-is Moment.Absent = refl
+moment-is (Moment.At t) = refl
+
+maximum-is : (m : Maximum) → maximumOf (isSet (bit (limited m))) (mostOf m) ≡ m
+maximum-is Maximum.Unlimited = refl
+maximum-is (Maximum.Of m) = refl
+
+entry-is : (e : Entry) → entryOf (flatEntry e) ≡ e
+entry-is e = λ i. record { deadline = moment-is (e .deadline) i; retrans = e .retrans; maximum = maximum-is (e .maximum) i; suppressed = set-is (e .suppressed) i }
+
+six : (l : List Entry) (d : Entry) → length l ≡ 6 → getD l 0 d ∷ getD l 1 d ∷ getD l 2 d ∷ getD l 3 d ∷ getD l 4 d ∷ getD l 5 d ∷ [] ≡ l
+six [] d h = absurd (omega arith)
+six (_ ∷ []) d h = absurd (omega arith)
+six (_ ∷ _ ∷ []) d h = absurd (omega arith)
+six (_ ∷ _ ∷ _ ∷ []) d h = absurd (omega arith)
+six (_ ∷ _ ∷ _ ∷ _ ∷ []) d h = absurd (omega arith)
+six (_ ∷ _ ∷ _ ∷ _ ∷ _ ∷ []) d h = absurd (omega arith)
+six (_ ∷ _ ∷ _ ∷ _ ∷ _ ∷ _ ∷ []) d h = refl
+six (_ ∷ _ ∷ _ ∷ _ ∷ _ ∷ _ ∷ _ ∷ l) d h = absurd (omega arith)
+
+pub table-is : (t : TimerTable) → length (t .entries) ≡ 6 → tableOf (flatTable t) ≡ t
+table-is t h =
+    let d = idleEntry Maximum.Unlimited in
+    (λ i. record { entries = entry-is (nth 0 t) i ∷ entry-is (nth 1 t) i ∷ entry-is (nth 2 t) i ∷ entry-is (nth 3 t) i ∷ entry-is (nth 4 t) i ∷ entry-is (nth 5 t) i ∷ []; «rto_max» = t .«rto_max» })
+    ∙ (λ i. record { entries = six (t .entries) d h i; «rto_max» = t .«rto_max» })
 
 -- ---- answers
 

@@ -2,7 +2,7 @@
 use denote.Ref.{now}
 use Rattle.model.specs.State.{Sender}
 use Rattle.model.specs.Flight.{earliestOutstanding}
-use Rattle.flat.specs.Replies.{flatEarliest}
+use Rattle.flat_replies.specs.Replies.{flatEarliest}
 use Rattle.flat.specs.Calls.{asks}
 use borrow.Author.Needs.{needs}
 use Rattle.flat_asks.proofs.earliest_outstanding.Statement.{statement}

@@ -2,7 +2,7 @@
 use denote.Ref.{now}
 use Rattle.model.specs.State.{Sender, inFlight}
 use Rattle.model.specs.Flight.{found}
-use Rattle.flat.specs.Replies.{flatFound}
+use Rattle.flat_replies.specs.Replies.{flatFound}
 use Rattle.flat.specs.Calls.{asks}
 use borrow.Author.Needs.{needs}
 use Rattle.flat_asks.proofs.get.Statement.{statement}

@@ -2,7 +2,7 @@
 use denote.Ref.{now}
 use Rattle.model.specs.State.{Sender, inFlight}
 use Rattle.model.specs.Flight.{isAbandoned}
-use Rattle.flat.specs.Replies.{yesOrNo}
+use Rattle.flat_replies.specs.Replies.{yesOrNo}
 use Rattle.flat.specs.Calls.{asks}
 use borrow.Author.Needs.{needs}
 use Rattle.flat_asks.proofs.is_abandoned.Statement.{statement}

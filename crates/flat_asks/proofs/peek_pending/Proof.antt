@@ -3,7 +3,7 @@ use denote.Ref.{now}
 use Rattle.model.specs.State.{Sender}
 use Rattle.model.specs.Rings.{head}
 use Rattle.model.specs.Flight.{found}
-use Rattle.flat.specs.Replies.{flatFound}
+use Rattle.flat_replies.specs.Replies.{flatFound}
 use Rattle.flat.specs.Calls.{asks}
 use borrow.Author.Needs.{needs}
 use Rattle.flat_asks.proofs.peek_pending.Statement.{statement}

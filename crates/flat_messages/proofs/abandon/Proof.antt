@@ -3,7 +3,7 @@ use denote.Ref.{now}
 use Rattle.model.specs.Rings.{abandon}
 use Rattle.outbound_abandon.specs.Lean.{leanAbandon}
 use Rattle.sender_head.specs.Whole.{roomIn}
-use Rattle.flat.specs.Replies.{flatAbandoned}
+use Rattle.flat_replies.specs.Replies.{flatAbandoned}
 use Rattle.flat.specs.Calls.{leans}
 use borrow.Author.Needs.{needs}
 use Rattle.flat_messages.proofs.abandon.Statement.{statement}

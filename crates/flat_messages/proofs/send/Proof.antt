@@ -3,7 +3,7 @@ use denote.Ref.{now}
 use Rattle.model.specs.Rings.{send}
 use Rattle.outbound_send.specs.Lean.{leanSend}
 use Rattle.sender_head.specs.Whole.{roomIn}
-use Rattle.flat.specs.Replies.{flatSent}
+use Rattle.flat_replies.specs.Replies.{flatSent}
 use Rattle.flat.specs.Calls.{leans}
 use borrow.Author.Needs.{needs}
 use Rattle.flat_messages.proofs.send.Statement.{statement}

@@ -3,7 +3,7 @@ use denote.Ref.{now}
 use Rattle.model.specs.Rings.{startLifetimes}
 use Rattle.outbound_send.specs.Lean.{leanStart}
 use Rattle.sender_head.specs.Whole.{roomIn}
-use Rattle.flat.specs.Replies.{flatDone}
+use Rattle.flat_replies.specs.Replies.{flatDone}
 use Rattle.flat.specs.Calls.{leans}
 use borrow.Author.Needs.{needs}
 use Rattle.flat_messages.proofs.start_lifetimes.Statement.{statement}

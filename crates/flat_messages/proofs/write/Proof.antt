@@ -2,7 +2,7 @@
 use denote.Ref.{now}
 use Rattle.model.specs.Messages.{write}
 use Rattle.sender_head.specs.Whole.{roomIn}
-use Rattle.flat.specs.Replies.{flatWritten}
+use Rattle.flat_replies.specs.Replies.{flatWritten}
 use Rattle.flat.specs.Calls.{goes}
 use borrow.Author.Needs.{needs}
 use Rattle.flat_messages.proofs.write.Statement.{statement}

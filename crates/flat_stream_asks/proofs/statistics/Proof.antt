@@ -2,7 +2,7 @@
 use denote.Ref.{now}
 use Rattle.model.specs.State.{Sender}
 use Rattle.model.specs.Streams.{find, counts}
-use Rattle.flat.specs.Replies.{flatCounted}
+use Rattle.flat_replies.specs.Replies.{flatCounted}
 use Rattle.flat.specs.Calls.{asks}
 use borrow.Author.Needs.{needs}
 use Rattle.flat_stream_asks.proofs.statistics.Statement.{statement}

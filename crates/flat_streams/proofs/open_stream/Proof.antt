@@ -2,7 +2,7 @@
 use denote.Ref.{now}
 use Rattle.model.specs.Streams.{openStream}
 use Rattle.sender_head.specs.Whole.{roomIn}
-use Rattle.flat.specs.Replies.{flatDone}
+use Rattle.flat_replies.specs.Replies.{flatDone}
 use Rattle.flat.specs.Calls.{goes}
 use borrow.Author.Needs.{needs}
 use Rattle.flat_streams.proofs.open_stream.Statement.{statement}

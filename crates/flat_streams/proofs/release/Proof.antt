@@ -5,7 +5,7 @@ use mir.Facts.{toZ-ofZ}
 use denote.Ref.{now}
 use Rattle.model.specs.Streams.{release}
 use Rattle.sender_head.specs.Whole.{senderOf}
-use Rattle.flat.specs.Replies.{flatReleased}
+use Rattle.flat_replies.specs.Replies.{flatReleased}
 use Rattle.flat.specs.Calls.{goes}
 use borrow.Author.Needs.{needs}
 use Rattle.flat_streams.proofs.release.Statement.{statement}

@@ -2,7 +2,7 @@
 use mathlib.Core.Path.{sym}
 use denote.Ref.{now}
 use Rattle.model.specs.Streams.{setHigh}
-use Rattle.flat.specs.Replies.{flatDone}
+use Rattle.flat_replies.specs.Replies.{flatDone}
 use Rattle.flat.specs.Calls.{goes}
 use borrow.Author.Needs.{needs}
 use Rattle.flat_streams.proofs.set_high_threshold.Statement.{statement}

@@ -1,0 +1,2 @@
+-- Replies: the flat reply of each answer.
+pub mod Replies
