@@ -86,31 +86,68 @@ impl Job for Cycle {
     }
 }
 
-/// Four sends in a block; the four that are oldest leave outside it.
-pub struct Send {
+/// One call of the cycle.
+#[derive(Clone, Copy, PartialEq, Eq)]
+pub enum Call {
+    Write,
+    Send,
+    Acknowledge,
+    Pop,
+    Release,
+}
+
+impl Call {
+    pub const ALL: [Call; 5] = [Call::Write, Call::Send, Call::Acknowledge, Call::Pop, Call::Release];
+
+    fn make<S: Side>(self, side: &mut S, now: S::Time, oldest: u32, answers: &mut Answers) {
+        match self {
+            Call::Write => side.write(Bytes::AsTheCallsAre, 1, LENGTH),
+            Call::Send => answers.chunk(side.send(now)),
+            Call::Acknowledge => answers.number(side.acknowledge(oldest)),
+            Call::Pop => answers.chunk(side.pop(oldest)),
+            Call::Release => answers.flag(side.release(1, LENGTH as i64)),
+        }
+    }
+}
+
+/// One call of the cycle by itself: each of the five is made four times in a row, and only one of the five is timed.
+pub struct Alone {
+    pub call: Call,
     pub flight: usize,
 }
 
-impl Job for Send {
+impl Job for Alone {
     fn name(&self) -> String {
-        "send".into()
+        let call = match self.call {
+            Call::Write => "write, as the calls are",
+            Call::Send => "send",
+            Call::Acknowledge => "acknowledge",
+            Call::Pop => "pop",
+            Call::Release => "released",
+        };
+        format!("{call}, alone")
     }
     fn size(&self) -> Option<usize> {
         Some(self.flight)
     }
     fn run<S: Side>(&self, repetitions: usize) -> Timed {
-        const BLOCK: usize = 4;
+        const BLOCK: u32 = 4;
         let mut watch = Stopwatch::default();
         let mut side: S = filled(0, self.flight, Bytes::AsTheCallsAre, &mut watch.answers);
         let now = side.time(1);
         let mut oldest = FIRST_TSN;
         for _ in 0..repetitions {
-            (0..BLOCK).for_each(|_| side.write(Bytes::AsTheCallsAre, 1, LENGTH));
-            watch.time(BLOCK, |answers| (0..BLOCK).for_each(|_| answers.chunk(side.send(now))));
-            for _ in 0..BLOCK {
-                leave(&mut side, oldest, &mut watch.answers);
-                oldest = oldest.wrapping_add(1);
+            for call in Call::ALL {
+                let mut block = |answers: &mut Answers| {
+                    (0..BLOCK).for_each(|i| call.make(&mut side, now, oldest.wrapping_add(i), answers));
+                };
+                if call == self.call {
+                    watch.time(BLOCK as usize, block);
+                } else {
+                    block(&mut watch.answers);
+                }
             }
+            oldest = oldest.wrapping_add(BLOCK);
         }
         watch.finish()
     }
@@ -336,6 +373,9 @@ impl TimerJob {
             TimerJob::ExpiryAndBackOff => {
                 let (expired, failure, count) = timers.is_expired(T3_RTX, late);
                 answers.number(count << 2 ^ u64::from(failure) << 1 ^ u64::from(expired));
+                if turn % 8 == 7 {
+                    timers.stop(T3_RTX);
+                }
                 timers.start(T3_RTX, now, 1000);
             }
             TimerJob::NextTimeout => answers.flag(timers.next_timeout().is_some()),
@@ -348,7 +388,9 @@ impl Job for TimerJob {
     fn name(&self) -> String {
         match self {
             TimerJob::Start => "timers: start".into(),
-            TimerJob::ExpiryAndBackOff => "timers: expiry, then start with back-off (two calls)".into(),
+            TimerJob::ExpiryAndBackOff => {
+                "timers: expiry, then start with back-off (two calls; a stop after eight)".into()
+            }
             TimerJob::NextTimeout => "timers: next timeout, three set".into(),
             TimerJob::Measure => "RTO: measure".into(),
         }

@@ -12,23 +12,30 @@ use std::env;
 use std::process::exit;
 
 use jobs::{
-    AbandonHalfSent, AbandonSent, Cycle, ExpirePending, ExpirePendingTail, Expired, Flight, Job, NothingNew, Send,
-    StartLifetimes, TimerJob,
+    AbandonHalfSent, AbandonSent, Alone, Call, Cycle, ExpirePending, ExpirePendingTail, Expired, Flight, Job,
+    NothingNew, StartLifetimes, TimerJob,
 };
 use race::{Plan, Row};
 use side::Bytes;
 
-/// What is done with each job.
-enum Task {
-    Check,
-    Race(Plan, Vec<Row>),
+/// What is done with the jobs whose name has `only` in it.
+struct Task {
+    only: String,
+    /// Nothing is timed.
+    check: bool,
+    plan: Plan,
+    rows: Vec<Row>,
 }
 
 impl Task {
     fn take<J: Job>(&mut self, job: J) {
-        match self {
-            Task::Check => race::check(&job),
-            Task::Race(plan, rows) => rows.push(race::race(&job, plan)),
+        if !job.name().contains(&self.only) {
+            return;
+        }
+        if self.check {
+            race::check(&job);
+        } else {
+            self.rows.push(race::race(&job, &self.plan));
         }
         eprintln!("{}{}", job.name(), job.size().map_or(String::new(), |size| format!(": {size}")));
     }
@@ -38,7 +45,9 @@ fn take_all(task: &mut Task) {
     for bytes in [Bytes::AsTheCallsAre, Bytes::BothCopy, Bytes::NeitherCopies] {
         [0, 10, 100, 250].into_iter().for_each(|flight| task.take(Cycle { bytes, flight }));
     }
-    [0, 10, 100, 250].into_iter().for_each(|flight| task.take(Send { flight }));
+    for call in Call::ALL {
+        [0, 10, 100, 250].into_iter().for_each(|flight| task.take(Alone { call, flight }));
+    }
     [20, 100, 200].into_iter().for_each(|fragments| task.take(AbandonHalfSent { fragments }));
     [10, 100, 250].into_iter().for_each(|flight| task.take(AbandonSent { flight }));
     for state in [Flight::NoneDue, Flight::NoneAcknowledged, Flight::AllAcknowledged] {
@@ -54,37 +63,42 @@ fn take_all(task: &mut Task) {
 }
 
 fn usage() -> ! {
-    eprintln!("race [--rounds N] [--millis M] [--check]");
+    eprintln!("race [--rounds N] [--millis M] [--only PART-OF-A-NAME] [--check]");
     exit(2)
 }
 
 fn read_arguments() -> Task {
-    let mut plan = Plan { rounds: 15, milliseconds: 20 };
+    let plan = Plan { rounds: 15, milliseconds: 20 };
+    let mut task = Task { only: String::new(), check: false, plan, rows: Vec::new() };
     let mut words = env::args().skip(1);
-    let mut check = false;
     while let Some(word) = words.next() {
-        let mut positive = || words.next().and_then(|n| n.parse().ok()).filter(|n| *n > 0).unwrap_or_else(|| usage());
+        let mut next = || words.next().unwrap_or_else(|| usage());
         match word.as_str() {
-            "--rounds" => plan.rounds = positive() as usize,
-            "--millis" => plan.milliseconds = positive(),
-            "--check" => check = true,
+            "--rounds" => task.plan.rounds = positive(&next()) as usize,
+            "--millis" => task.plan.milliseconds = positive(&next()),
+            "--only" => task.only = next(),
+            "--check" => task.check = true,
             _ => usage(),
         }
     }
-    if check { Task::Check } else { Task::Race(plan, Vec::new()) }
+    task
+}
+
+fn positive(word: &str) -> u64 {
+    word.parse().ok().filter(|number| *number > 0).unwrap_or_else(|| usage())
 }
 
 fn main() {
     let mut task = read_arguments();
     take_all(&mut task);
-    let Task::Race(plan, rows) = task else {
+    if task.check {
         println!("both sides answer the same");
         return;
-    };
+    }
     let cost = stopwatch::reading_cost();
-    println!("Median of {} rounds, the two sides in turn (least..most).", plan.rounds);
+    println!("Median of {} rounds, the two sides in turn (least..most).", task.plan.rounds);
     println!("Reading the clock takes {cost:.1} ns, which is taken off every timed block.\n");
-    table::costs(&rows);
+    table::costs(&task.rows);
     println!("\nHow the cost grows from the first number to the last:\n");
-    table::growth(&rows);
+    table::growth(&task.rows);
 }
