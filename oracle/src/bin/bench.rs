@@ -35,9 +35,9 @@ fn main() {
                 let s = Instant::now();
                 for _ in 0..reps {
                     if shared {
-                        b.write_shared(1, &buf)
+                        b.write_shared(1, &buf);
                     } else {
-                        b.write(1, len)
+                        b.write(1, len);
                     }
                     black_box(b.send(t));
                     let o = b.oldest().unwrap();
@@ -63,7 +63,7 @@ fn main() {
             for _ in 0..rounds {
                 let s = Instant::now();
                 for _ in 0..16 {
-                    b.write(1, 1200)
+                    b.write(1, 1200);
                 }
                 acc[0] += s.elapsed().as_nanos();
                 let s = Instant::now();
@@ -246,7 +246,7 @@ fn main() {
                 let late = b.now(1000);
                 let s = Instant::now();
                 let mut k = 0;
-                while b.expire_pending(late) {
+                while b.expire_pending(late).is_some() {
                     k += 1;
                 }
                 ns(s, k.max(1))
@@ -259,7 +259,7 @@ fn main() {
                 for _ in 0..20 {
                     let mut b = Oracle::bench_sender(60, 50);
                     b.write(1, 60 * (n + 1));
-                    let x = b.send(t).unwrap();
+                    let x = b.send(t).unwrap().tsn;
                     b.ack(x);
                     b.pop(x);
                     let late = b.now(1000);

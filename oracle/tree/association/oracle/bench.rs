@@ -1,6 +1,6 @@
-//! The originals without the script around them, for `src/bin/bench.rs`.
+//! The originals without the script around them, for `src/bin/bench.rs` and for the race in `bench/`.
+//! Each call stands by itself (`inline(never)`), as a call of the archive does, and answers what the original answers.
 
-use alloc::vec;
 use alloc::vec::Vec;
 use core::time::Duration;
 use std::time::Instant;
@@ -10,12 +10,34 @@ use crate::Side;
 use crate::association::Association;
 use crate::association::stream::{ReliabilityType, Stream, StreamState};
 use crate::association::timer::{RtoManager, Timer, TimerTable};
-use crate::chunk::chunk_payload_data::PayloadProtocolIdentifier as Ppi;
+use crate::chunk::chunk_payload_data::{ChunkPayloadData, PayloadProtocolIdentifier as Ppi};
+
+/// What is told of a chunk.
+#[derive(Clone, Copy, Debug, PartialEq, Eq)]
+pub struct BenchChunk {
+    pub tsn: u32,
+    pub ssn: u16,
+    pub stream: u16,
+    pub number: u64,
+    pub length: usize,
+}
+
+fn told(chunk: &ChunkPayloadData) -> BenchChunk {
+    BenchChunk {
+        tsn: chunk.tsn,
+        ssn: chunk.stream_sequence_number,
+        stream: chunk.stream_identifier,
+        number: chunk.message_id,
+        length: chunk.user_data.len(),
+    }
+}
+
+/// The bytes that are written.
+static DATA: [u8; 1 << 18] = [7; 1 << 18];
 
 pub struct BenchSender {
     base: Instant,
     a: Association,
-    data: Vec<u8>,
 }
 
 impl BenchSender {
@@ -35,16 +57,15 @@ impl Oracle {
             }
             a.streams.insert(sid, s);
         }
-        BenchSender { base: Instant::now(), a, data: vec![7; 1 << 20] }
+        BenchSender { base: Instant::now(), a }
     }
 }
 
 impl BenchSender {
     /// The whole write of stream.rs (it copies the bytes once, into a fresh allocation).
     #[inline(never)]
-    pub fn write(&mut self, sid: u16, len: usize) {
-        let _ =
-            Stream { stream_identifier: sid, association: &mut self.a }.write_with_ppi(&self.data[..len], Ppi::Binary);
+    pub fn write(&mut self, sid: u16, len: usize) -> Option<usize> {
+        Stream { stream_identifier: sid, association: &mut self.a }.write_with_ppi(&DATA[..len], Ppi::Binary).ok()
     }
     /// packetize + reliability + push of an already shared buffer: no copy.
     #[inline(never)]
@@ -58,36 +79,36 @@ impl BenchSender {
         self.a.outbound.push(chunks);
     }
     #[inline(never)]
-    pub fn send(&mut self, now: Instant) -> Option<u32> {
-        self.a.outbound.send_next(&mut self.a.my_next_tsn, now).map(|c| c.tsn)
+    pub fn send(&mut self, now: Instant) -> Option<BenchChunk> {
+        self.a.outbound.send_next(&mut self.a.my_next_tsn, now).map(|c| told(&c))
     }
     #[inline(never)]
     pub fn ack(&mut self, tsn: u32) -> usize {
         self.a.outbound.mark_as_acked(tsn)
     }
     #[inline(never)]
-    pub fn pop(&mut self, tsn: u32) -> bool {
-        self.a.outbound.pop(tsn).is_some()
+    pub fn pop(&mut self, tsn: u32) -> Option<BenchChunk> {
+        self.a.outbound.pop(tsn).map(|c| told(&c))
     }
     #[inline(never)]
     pub fn released(&mut self, sid: u16, n: i64) -> bool {
         self.a.streams.get_mut(&sid).expect("open").on_buffer_released(n)
     }
     #[inline(never)]
-    pub fn abandon(&mut self, tsn: u32) -> usize {
-        self.a.outbound.abandon(tsn, &mut self.a.my_next_tsn).map_or(0, |x| x.1)
+    pub fn abandon(&mut self, tsn: u32) -> Option<(u16, usize)> {
+        self.a.outbound.abandon(tsn, &mut self.a.my_next_tsn)
     }
     #[inline(never)]
-    pub fn expired(&self, now: Instant) -> usize {
-        self.a.outbound.expired_inflight(now).len()
+    pub fn expired(&self, now: Instant) -> Vec<u32> {
+        self.a.outbound.expired_inflight(now)
     }
     #[inline(never)]
-    pub fn expire_pending(&mut self, now: Instant) -> bool {
-        self.a.outbound.expire_pending(now).is_some()
+    pub fn expire_pending(&mut self, now: Instant) -> Option<(u16, bool, usize)> {
+        self.a.outbound.expire_pending(now)
     }
     #[inline(never)]
-    pub fn expire_tail(&mut self, now: Instant) -> bool {
-        self.a.outbound.expire_pending_tail(now, &mut self.a.my_next_tsn).is_some()
+    pub fn expire_tail(&mut self, now: Instant) -> Option<(u16, u64, usize)> {
+        self.a.outbound.expire_pending_tail(now, &mut self.a.my_next_tsn)
     }
     #[inline(never)]
     pub fn lifetimes(&mut self, now: Instant) {
@@ -113,6 +134,57 @@ impl BenchSender {
     }
     pub fn pending(&self) -> usize {
         self.a.outbound.pending_len()
+    }
+}
+
+/// The timers' table and the round-trip estimator.
+pub struct BenchTimers {
+    base: Instant,
+    timers: TimerTable,
+    rto: RtoManager,
+}
+
+impl Oracle {
+    pub fn bench_timers() -> BenchTimers {
+        BenchTimers {
+            base: Instant::now(),
+            timers: TimerTable::new(Some(8), Some(10), 60_000),
+            rto: RtoManager::new(3000, 1000, 60_000),
+        }
+    }
+}
+
+impl BenchTimers {
+    pub fn now(&self, ms: u64) -> Instant {
+        self.base + Duration::from_millis(ms)
+    }
+    /// A deadline in milliseconds.
+    pub fn since(&self, deadline: Instant) -> u64 {
+        (deadline - self.base).as_millis() as u64
+    }
+    #[inline(never)]
+    pub fn start(&mut self, timer: usize, now: Instant, interval: u64) {
+        self.timers.start(Timer::VALUES[timer], now, interval)
+    }
+    #[inline(never)]
+    pub fn stop(&mut self, timer: usize) {
+        self.timers.stop(Timer::VALUES[timer])
+    }
+    #[inline(never)]
+    pub fn is_expired(&mut self, timer: usize, now: Instant) -> (bool, bool, usize) {
+        self.timers.is_expired(Timer::VALUES[timer], now)
+    }
+    #[inline(never)]
+    pub fn next_timeout(&self) -> Option<Instant> {
+        self.timers.next_timeout()
+    }
+    #[inline(never)]
+    pub fn measure(&mut self, rtt: u64) -> u64 {
+        self.rto.set_new_rtt(rtt)
+    }
+    /// The RTO, and the bits of rttvar.
+    pub fn estimate(&self) -> (u64, u64) {
+        (self.rto.get_rto(), self.rto.rttvar.to_bits())
     }
 }
 

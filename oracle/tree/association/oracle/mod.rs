@@ -6,7 +6,7 @@
 //! All else is the original's work.
 
 mod aim;
-mod bench;
+pub mod bench;
 mod call;
 mod faults;
 mod guard;

@@ -1,0 +1,104 @@
+//! The race of the archive with the unchanged Rust, in one process. `bench/run` builds and starts it.
+mod girdermoth;
+mod jobs;
+mod ours;
+mod race;
+mod side;
+mod stopwatch;
+mod table;
+mod theirs;
+
+use std::env;
+use std::process::exit;
+
+use jobs::{
+    AbandonHalfSent, AbandonSent, Alone, Call, Cycle, ExpirePending, ExpirePendingTail, Expired, Flight, Job,
+    NothingNew, StartLifetimes, TimerJob,
+};
+use race::{Plan, Row};
+use side::Bytes;
+
+/// What is done with the jobs whose name has `only` in it.
+struct Task {
+    only: String,
+    /// Nothing is timed.
+    check: bool,
+    plan: Plan,
+    rows: Vec<Row>,
+}
+
+impl Task {
+    fn take<J: Job>(&mut self, job: J) {
+        if !job.name().contains(&self.only) {
+            return;
+        }
+        if self.check {
+            race::check(&job);
+        } else {
+            self.rows.push(race::race(&job, &self.plan));
+        }
+        eprintln!("{}{}", job.name(), job.size().map_or(String::new(), |size| format!(": {size}")));
+    }
+}
+
+fn take_all(task: &mut Task) {
+    for bytes in [Bytes::AsTheCallsAre, Bytes::BothCopy, Bytes::NeitherCopies] {
+        [0, 10, 100, 250].into_iter().for_each(|flight| task.take(Cycle { bytes, flight }));
+    }
+    for call in Call::ALL {
+        [0, 10, 100, 250].into_iter().for_each(|flight| task.take(Alone { call, flight }));
+    }
+    [20, 100, 200].into_iter().for_each(|fragments| task.take(AbandonHalfSent { fragments }));
+    [10, 100, 250].into_iter().for_each(|flight| task.take(AbandonSent { flight }));
+    for state in [Flight::NoneDue, Flight::NoneAcknowledged, Flight::AllAcknowledged] {
+        [10, 100, 250].into_iter().for_each(|flight| task.take(Expired { flight, state }));
+    }
+    [10, 100, 250].into_iter().for_each(|messages| task.take(ExpirePending { messages }));
+    [10, 100, 250].into_iter().for_each(|rest| task.take(ExpirePendingTail { rest }));
+    [10, 100, 250].into_iter().for_each(|messages| task.take(StartLifetimes { messages }));
+    task.take(NothingNew { messages: 250 });
+    for job in [TimerJob::Start, TimerJob::ExpiryAndBackOff, TimerJob::NextTimeout, TimerJob::Measure] {
+        task.take(job);
+    }
+}
+
+fn usage() -> ! {
+    eprintln!("race [--rounds N] [--millis M] [--only PART-OF-A-NAME] [--check]");
+    exit(2)
+}
+
+fn read_arguments() -> Task {
+    let plan = Plan { rounds: 15, milliseconds: 20 };
+    let mut task = Task { only: String::new(), check: false, plan, rows: Vec::new() };
+    let mut words = env::args().skip(1);
+    while let Some(word) = words.next() {
+        let mut next = || words.next().unwrap_or_else(|| usage());
+        match word.as_str() {
+            "--rounds" => task.plan.rounds = positive(&next()) as usize,
+            "--millis" => task.plan.milliseconds = positive(&next()),
+            "--only" => task.only = next(),
+            "--check" => task.check = true,
+            _ => usage(),
+        }
+    }
+    task
+}
+
+fn positive(word: &str) -> u64 {
+    word.parse().ok().filter(|number| *number > 0).unwrap_or_else(|| usage())
+}
+
+fn main() {
+    let mut task = read_arguments();
+    take_all(&mut task);
+    if task.check {
+        println!("both sides answer the same");
+        return;
+    }
+    let cost = stopwatch::reading_cost();
+    println!("Median of {} rounds, the two sides in turn (least..most).", task.plan.rounds);
+    println!("Reading the clock takes {cost:.1} ns, which is taken off every timed block.\n");
+    table::costs(&task.rows);
+    println!("\nHow the cost grows from the first number to the last:\n");
+    table::growth(&task.rows);
+}

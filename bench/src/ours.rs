@@ -1,0 +1,165 @@
+//! Our side, through the archive, as a host calls it.
+use std::hint::black_box;
+
+use crate::girdermoth as c;
+use crate::side::{Bytes, Chunk, Clockwork, FIRST_TSN, Freed, Side};
+
+const BINARY: u32 = 53;
+const TIMED: u8 = 2;
+const LONGEST: usize = 65_536;
+/// Room for the bytes of 511 messages of 1,200 bytes: more than can be pending and in flight.
+const STORE: usize = 1200 * 511 + LONGEST;
+
+static SOURCE: [u8; LONGEST] = [7; LONGEST];
+
+pub struct Ours {
+    sender: Box<c::Sender>,
+    list: [u32; 256],
+    /// The host's copies, one behind the other, over and over; made at the first copy.
+    store: Vec<u8>,
+    place: usize,
+}
+
+impl Ours {
+    fn copy(&mut self, length: usize) {
+        if self.store.is_empty() {
+            self.store = vec![0; STORE];
+        }
+        self.store[self.place..self.place + length].copy_from_slice(black_box(&SOURCE[..length]));
+    }
+    fn advance(&mut self, length: usize) {
+        let next = self.place + length;
+        self.place = if next + LONGEST > STORE { 0 } else { next };
+    }
+}
+
+fn chunk(f: c::Fragment) -> Option<Chunk> {
+    assert!(f.refusal == 0);
+    f.some.then_some(Chunk { tsn: f.tsn, ssn: f.ssn, stream: f.stream, number: f.number, length: u64::from(f.length) })
+}
+
+fn freed(f: c::Freed) -> Option<Freed> {
+    f.some.then_some(Freed { stream: f.stream, bytes: f.bytes })
+}
+
+impl Side for Ours {
+    type Time = u64;
+    type Timers = OurTimers;
+
+    fn fresh(payload: u32, lifetime: u32) -> Self {
+        let mut sender = c::Sender::blank();
+        c::girdermoth_init(&mut sender, FIRST_TSN, 0);
+        for stream in 1..=2 {
+            c::girdermoth_open_stream(&mut sender, stream, payload);
+            if lifetime > 0 {
+                c::girdermoth_set_reliability(&mut sender, stream, false, TIMED, lifetime);
+            }
+        }
+        Ours { sender, list: [0; 256], store: Vec::new(), place: 0 }
+    }
+    fn time(&self, milliseconds: u64) -> u64 {
+        milliseconds
+    }
+    fn write(&mut self, bytes: Bytes, stream: u16, length: usize) {
+        if bytes == Bytes::BothCopy {
+            self.copy(length);
+        }
+        let reply = c::girdermoth_write(&mut self.sender, stream, BINARY, self.place as u64, length as u64);
+        assert!(reply.refusal == 0);
+        self.advance(length);
+    }
+    fn send(&mut self, now: u64) -> Option<Chunk> {
+        chunk(c::girdermoth_send(&mut self.sender, now))
+    }
+    fn acknowledge(&mut self, tsn: u32) -> u64 {
+        c::girdermoth_acknowledge(&mut self.sender, tsn).value
+    }
+    fn pop(&mut self, tsn: u32) -> Option<Chunk> {
+        chunk(c::girdermoth_pop(&mut self.sender, tsn))
+    }
+    fn release(&mut self, stream: u16, bytes: i64) -> bool {
+        c::girdermoth_release(&mut self.sender, stream, bytes).yes
+    }
+    fn abandon(&mut self, tsn: u32) -> Option<Freed> {
+        freed(c::girdermoth_abandon(&mut self.sender, tsn))
+    }
+    fn expired(&mut self, now: u64) -> usize {
+        let list = &mut self.list;
+        // SAFETY: the list is ours, of that length, and lies outside the sender.
+        let reply = unsafe { c::girdermoth_expired_inflight(&mut self.sender, list.as_mut_ptr(), list.len(), now) };
+        assert!(reply.refusal == 0);
+        black_box(&self.list);
+        reply.value as usize
+    }
+    fn expired_list(&mut self, now: u64) -> Vec<u32> {
+        let count = self.expired(now);
+        self.list[..count].to_vec()
+    }
+    fn expire_pending(&mut self, now: u64) -> Option<Freed> {
+        freed(c::girdermoth_expire_pending(&mut self.sender, now))
+    }
+    fn expire_pending_tail(&mut self, now: u64) -> Option<Freed> {
+        freed(c::girdermoth_expire_pending_tail(&mut self.sender, now))
+    }
+    fn start_lifetimes(&mut self, now: u64) {
+        c::girdermoth_start_lifetimes(&mut self.sender, now);
+    }
+    fn in_flight(&self) -> usize {
+        c::girdermoth_inflight_length(&self.sender).value as usize
+    }
+    fn pending(&self) -> usize {
+        c::girdermoth_pending_length(&self.sender).value as usize
+    }
+}
+
+pub struct OurTimers {
+    timers: c::Timers,
+    rto: c::Rto,
+}
+
+impl OurTimers {
+    fn keep(&mut self, reply: &c::TimersReply) {
+        assert!(reply.refusal == 0);
+        self.timers = reply.timers;
+    }
+}
+
+impl Clockwork for OurTimers {
+    type Time = u64;
+
+    fn fresh() -> Self {
+        OurTimers {
+            timers: c::girdermoth_timers_new(true, 8, true, 10, 60_000).timers,
+            rto: c::girdermoth_rto_new(3000, 1000, 60_000).rto,
+        }
+    }
+    fn time(&self, milliseconds: u64) -> u64 {
+        milliseconds
+    }
+    fn start(&mut self, timer: usize, now: u64, interval: u64) {
+        self.keep(&c::girdermoth_timer_start(self.timers, timer, now, interval));
+    }
+    fn stop(&mut self, timer: usize) {
+        self.keep(&c::girdermoth_timer_stop(self.timers, timer));
+    }
+    fn is_expired(&mut self, timer: usize, now: u64) -> (bool, bool, u64) {
+        let reply = c::girdermoth_timer_is_expired(self.timers, timer, now);
+        self.keep(&reply);
+        (reply.expired, reply.failure, u64::from(reply.count))
+    }
+    fn next_timeout(&self) -> Option<u64> {
+        let due = c::girdermoth_timers_next_timeout(self.timers);
+        due.yes.then_some(due.value)
+    }
+    fn milliseconds(&self, time: u64) -> u64 {
+        time
+    }
+    fn measure(&mut self, rtt: u64) -> u64 {
+        let reply = c::girdermoth_rto_measure(self.rto, rtt);
+        self.rto = reply.rto;
+        reply.value
+    }
+    fn estimate(&self) -> (u64, u64) {
+        (self.rto.rto, self.rto.rttvar.to_bits())
+    }
+}
