@@ -36,7 +36,11 @@ fn main() {
     }
     let out = PathBuf::from(env::var_os("OUT_DIR").expect("cargo sets OUT_DIR"));
     let archives: Vec<PathBuf> = match env::var_os("GIRDERMOTH_ARCHIVE") {
-        Some(paths) => env::split_paths(&paths).collect(),
+        Some(paths) => {
+            let paths: Vec<PathBuf> = env::split_paths(&paths).collect();
+            paths.iter().for_each(|path| println!("cargo::rerun-if-changed={}", path.display()));
+            paths
+        }
         None => {
             let here = PathBuf::from(env::var_os("CARGO_MANIFEST_DIR").expect("cargo sets CARGO_MANIFEST_DIR"));
             let Some(root) = here.parent() else { fail("the crate must stand in the repository, beside crates/") };
@@ -50,7 +54,6 @@ fn main() {
     };
     println!("cargo::rustc-link-search=native={}", out.display());
     for (number, archive) in archives.iter().enumerate() {
-        println!("cargo::rerun-if-changed={}", archive.display());
         let copy = format!("girdermoth_part{number}");
         if let Err(error) = fs::copy(archive, out.join(format!("lib{copy}.a"))) {
             fail(&format!("cannot read the archive {}: {error}", archive.display()));

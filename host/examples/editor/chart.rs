@@ -2,19 +2,19 @@
 
 use std::fmt::Write;
 
-use crate::host::{CHANNELS, End, Event, Mark, Message};
+use crate::host::{CHANNELS, Channel, End, Event, Mark, Message};
 use crate::link::DOWN;
 use crate::{FIRST_TSN, Session};
 
 const WIDTH: f64 = 1440.0;
-const HEIGHT: f64 = 1120.0;
 const LEFT: f64 = 112.0;
 const RIGHT: f64 = 1410.0;
 /// The upper drawing, and the lower one.
 const TOP: f64 = 128.0;
 const BOTTOM: f64 = 800.0;
 const LANES: f64 = 868.0;
-const LANE: f64 = 62.0;
+/// A message's row in it.
+const ROW: f64 = 14.5;
 
 const INK: &str = "#1f2933";
 const FAINT: &str = "#7b8794";
@@ -84,8 +84,7 @@ impl Scale {
     }
 }
 
-fn ground(svg: &mut String, session: &Session, scale: &Scale) {
-    let floor = LANES + LANE * CHANNELS.len() as f64;
+fn ground(svg: &mut String, session: &Session, scale: &Scale, floor: f64) {
     // A band for each edit: from the moment that the host hears of it to the next.
     for (at, edit) in session.edits.iter().enumerate() {
         let from = scale.x(edit.at);
@@ -173,28 +172,57 @@ fn bar(session: &Session, message: &Message, scale: &Scale, y: f64) -> String {
     )
 }
 
-fn lanes(svg: &mut String, session: &Session, scale: &Scale) {
-    svg.push_str(&text(LEFT, LANES - 8.0, 13, INK, "start", "each message, from its write to its end"));
-    for (at, channel) in CHANNELS.iter().enumerate() {
-        let top = LANES + LANE * at as f64;
-        svg.push_str(&line(LEFT, top, RIGHT, top, "#b8c7d6", "stroke-width='0.8'"));
-        svg.push_str(&text(LEFT - 9.0, top + 26.0, 13, INK, "end", channel.name));
-        let life = channel.lifetime.map_or("for ever".into(), |ms| format!("{ms} ms"));
-        svg.push_str(&text(LEFT - 9.0, top + 41.0, 11, "#616e7c", "end", &life));
-        // A row for each message that would otherwise lie on another.
-        let mut free = [0.0f64; 4];
-        for message in session.host.messages.values().filter(|message| message.stream == channel.stream) {
-            let end = session.handed(message).map_or(message.ended, |handed| handed.at).max(message.ended);
-            let row = free.iter().position(|until| *until < scale.x(message.written)).unwrap_or(3);
-            free[row] = scale.x(end) + 10.0;
-            svg.push_str(&bar(session, message, scale, top + 3.5 + 14.5 * row as f64));
-        }
-    }
-    let floor = LANES + LANE * CHANNELS.len() as f64;
-    svg.push_str(&line(LEFT, floor, RIGHT, floor, "#b8c7d6", "stroke-width='0.8'"));
+/// A channel's lane: its messages with their rows, and how many rows they need.
+struct Lane<'a> {
+    channel: &'static Channel,
+    messages: Vec<(&'a Message, usize)>,
+    rows: usize,
 }
 
-fn legend(svg: &mut String) {
+impl Lane<'_> {
+    fn height(&self) -> f64 {
+        6.0 + ROW * self.rows.max(3) as f64
+    }
+}
+
+/// A message lies in the first row that is free when it is written.
+fn laid_out<'a>(session: &'a Session, scale: &Scale) -> Vec<Lane<'a>> {
+    let lane = |channel: &'static Channel| {
+        let mut free: Vec<f64> = Vec::new();
+        let mut messages = Vec::new();
+        for message in session.host.messages.values().filter(|message| message.stream == channel.stream) {
+            let end = session.handed(message).map_or(message.ended, |handed| handed.at.max(message.ended));
+            let row = free.iter().position(|until| *until < scale.x(message.written)).unwrap_or(free.len());
+            free.resize(free.len().max(row + 1), 0.0);
+            free[row] = scale.x(end) + 8.0;
+            messages.push((message, row));
+        }
+        Lane { channel, messages, rows: free.len() }
+    };
+    CHANNELS.iter().map(lane).collect()
+}
+
+fn floor(lanes: &[Lane]) -> f64 {
+    LANES + lanes.iter().map(Lane::height).sum::<f64>()
+}
+
+fn draw_lanes(svg: &mut String, session: &Session, scale: &Scale, lanes: &[Lane]) {
+    svg.push_str(&text(LEFT, LANES - 8.0, 13, INK, "start", "each message, from its write to its end"));
+    let mut top = LANES;
+    for lane in lanes {
+        svg.push_str(&line(LEFT, top, RIGHT, top, "#b8c7d6", "stroke-width='0.8'"));
+        svg.push_str(&text(LEFT - 9.0, top + 20.0, 13, INK, "end", lane.channel.name));
+        let life = lane.channel.lifetime.map_or("for ever".into(), |ms| format!("{ms} ms"));
+        svg.push_str(&text(LEFT - 9.0, top + 35.0, 11, "#616e7c", "end", &life));
+        for (message, row) in &lane.messages {
+            svg.push_str(&bar(session, message, scale, top + 4.0 + ROW * *row as f64));
+        }
+        top += lane.height();
+    }
+    svg.push_str(&line(LEFT, top, RIGHT, top, "#b8c7d6", "stroke-width='0.8'"));
+}
+
+fn legend(svg: &mut String, floor: f64) {
     let mut x = LEFT;
     for mark in [Mark::Sent, Mark::Retransmitted, Mark::Acknowledged, Mark::Abandoned, Mark::Terminator] {
         let _ = writeln!(svg, "<g transform='translate({x:.1} 96) scale(1.7)'>{}</g>", shape(mark, 4.0, 0.0));
@@ -204,7 +232,7 @@ fn legend(svg: &mut String) {
     let _ = writeln!(svg, "<rect x='{x:.1}' y='88' width='22' height='16' fill='#eaf1f8' stroke='#b8c7d6'/>");
     svg.push_str(&text(x + 29.0, 100.5, 13, INK, "start", "a version of the graph, from its edit to the next"));
     // The bars of the lower drawing.
-    let y = LANES + LANE * CHANNELS.len() as f64 + 22.0;
+    let y = floor + 22.0;
     let mut x = LEFT;
     for (fill, stroke, dash, words) in [
         ("#bfe3d7", colour(Mark::Acknowledged), "", "handed over to the editor"),
@@ -221,14 +249,17 @@ fn legend(svg: &mut String) {
 pub fn draw(session: &Session) -> String {
     let last = session.host.sender.next_tsn().wrapping_sub(FIRST_TSN);
     let scale = Scale { time: (session.ended as f64 / 50.0).ceil() * 50.0, tsns: f64::from(last) };
+    let lanes = laid_out(session, &scale);
+    let floor = floor(&lanes);
+    let height = floor + 56.0;
     let mut svg = format!(
-        "<svg xmlns='http://www.w3.org/2000/svg' viewBox='0 0 {WIDTH} {HEIGHT}' width='{WIDTH}' height='{HEIGHT}' font-family='Helvetica, Arial, sans-serif'>\n\
+        "<svg xmlns='http://www.w3.org/2000/svg' viewBox='0 0 {WIDTH} {height}' width='{WIDTH}' height='{height}' font-family='Helvetica, Arial, sans-serif'>\n\
          <title>A session of analyses over a lossy link</title>\n\
          <defs>\n\
          <pattern id='down' width='8' height='8' patternUnits='userSpaceOnUse' patternTransform='rotate(45)'><rect width='3' height='8' fill='#9aa5b1' fill-opacity='0.28'/></pattern>\n\
          <pattern id='cut' width='6' height='6' patternUnits='userSpaceOnUse' patternTransform='rotate(-45)'><rect width='6' height='6' fill='#f6e8f6'/><rect width='2.4' height='6' fill='#d9a9db'/></pattern>\n\
          </defs>\n\
-         <rect width='{WIDTH}' height='{HEIGHT}' fill='#fff'/>\n"
+         <rect width='{WIDTH}' height='{height}' fill='#fff'/>\n"
     );
     let cut = session.host.messages.values().filter(|message| matches!(message.end, End::Cut(_))).count();
     svg.push_str(&text(LEFT, 38.0, 22, INK, "start", "The life of a channel: analyses with lifetimes over a lossy link"));
@@ -238,10 +269,10 @@ pub fn draw(session: &Session) -> String {
         session.host.messages.len(),
     );
     svg.push_str(&text(LEFT, 62.0, 14, "#52606d", "start", &words));
-    ground(&mut svg, session, &scale);
+    ground(&mut svg, session, &scale, floor);
     lives(&mut svg, session, &scale);
-    lanes(&mut svg, session, &scale);
-    legend(&mut svg);
+    draw_lanes(&mut svg, session, &scale, &lanes);
+    legend(&mut svg, floor);
     svg.push_str("</svg>\n");
     svg
 }

@@ -30,7 +30,7 @@ pub enum Packet {
 pub const DELAY: (u64, u64) = (15, 25);
 pub const LOSS_PERCENT: u64 = 7;
 /// Nothing that sets out in this time arrives.
-pub const DOWN: (u64, u64) = (560, 680);
+pub const DOWN: (u64, u64) = (460, 570);
 
 pub struct Link {
     rng: Rng,

@@ -21,11 +21,11 @@ use link::{DELAY, DOWN, LOSS_PERCENT, Link};
 use receiver::{Handed, Receiver};
 use rng::Rng;
 
-/// The session that is shown if no other is asked for.
-const SEED: u64 = 516;
+/// The session that is shown if no other is asked for. It was picked for its picture; the checks hold of any.
+const SEED: u64 = 340;
 const EDITS: u32 = 12;
 /// Near the end of the numbers, so that they wrap in the middle of the session.
-const FIRST_TSN: u32 = u32::MAX - 69;
+const FIRST_TSN: u32 = u32::MAX - 79;
 
 /// An edit, and when the host hears of it.
 pub struct Edit {
@@ -65,11 +65,15 @@ fn content(stream: u16, version: u32, length: u64) -> Vec<u8> {
 
 fn run(seed: u64) -> Result<Session, Box<dyn Error>> {
     let mut rng = Rng::new(seed);
-    let mut at = 20;
+    let mut at = 0;
     let edits: Vec<Edit> = (1..=EDITS)
         .map(|version| {
             // The user types fast from the fourth edit to the sixth, and from the ninth to the eleventh.
-            at += if matches!(version, 4..=6 | 9..=11) { rng.within(24, 45) } else { rng.within(95, 130) };
+            at += match version {
+                1 => 20,
+                4..=6 | 9..=11 => rng.within(24, 45),
+                _ => rng.within(95, 130),
+            };
             Edit { version, at }
         })
         .collect();
@@ -144,16 +148,17 @@ fn check(session: &mut Session) -> (usize, usize) {
 
 fn told(session: &Session, message: &Message) -> String {
     let fragments = message.fragments();
+    let chunks = if fragments == 1 { " 1 chunk".into() } else { format!("{fragments:2} chunks") };
     let arrived = session.handed(message).map(|handed| handed.at - message.written);
     match message.end {
         End::Open => unreachable!("checked"),
-        End::Dropped => format!("{fragments:2} chunks, expired unsent"),
-        End::Cut(tsn) => format!("{:2} of {fragments} sent, CUT, ends in {tsn}", message.sent),
+        End::Dropped => format!("{chunks}, expired unsent"),
+        End::Cut(tsn) => format!("{:2} of {fragments} sent, CUT: terminator {tsn}", message.sent),
         End::GivenUp => match arrived {
-            Some(after) => format!("{fragments:2} chunks, there in {after} ms, unheard"),
-            None => format!("{fragments:2} chunks, all sent, expired"),
+            Some(after) => format!("{chunks}, there in {after} ms, unheard"),
+            None => format!("{chunks}, all sent, expired"),
         },
-        End::Acknowledged => format!("{fragments:2} chunks, there in {} ms", arrived.expect("checked")),
+        End::Acknowledged => format!("{chunks}, there in {} ms", arrived.expect("checked")),
     }
 }
 
@@ -174,6 +179,7 @@ fn tell(session: &Session, (older, waited): (usize, usize)) {
         let [a, b, c] = [1, 2, 3].map(|stream| told(session, session.message(stream, edit.version)));
         println!("{:>4} {:>6}  {a:38}{b:38}{c}", format!("v{}", edit.version), format!("{} ms", edit.at));
     }
+    println!("(unheard: the editor has it, but the host gave it up before the acknowledgement came)");
     let marks = |mark: Mark| host.events.iter().filter(|event| event.mark == mark).count();
     let ends = |end: fn(&End) -> bool| host.messages.values().filter(|message| end(&message.end)).count();
     let cut = ends(|end| matches!(end, End::Cut(_)));
@@ -197,8 +203,8 @@ fn tell(session: &Session, (older, waited): (usize, usize)) {
     println!("\nchecked    each of the {cut} cut trees ends in exactly one terminator: the next TSN, empty, never sent; no other message has one");
     println!("           no tree that was cut or dropped was handed over; none came twice; every byte is right");
     println!("           nothing left the host at or after its deadline, so each tree was whole at the editor in its lifetime and one way");
-    println!("           each tree handed over was the newest of its channel so far, or in its lifetime: on the ordered channel versions only rose");
-    println!("           ({waited} waited for a forward point past its lifetime), on the unordered one {older} came after a newer one, not expired");
+    println!("           each tree handed over was the newest of its channel so far or had not expired: on the ordered channel versions only rose");
+    println!("           ({waited} waited behind a cut one past their lifetime), on the unordered one {older} came after a newer one, not expired");
     println!("           all {EDITS} messages without a lifetime came, in order; both ends are empty: nobody waits for a cut tree");
 }
 
@@ -217,4 +223,19 @@ fn main() -> Result<(), Box<dyn Error>> {
     std::fs::write(&path, chart::draw(&session)).map_err(|error| format!("cannot write {}: {error}", path.display()))?;
     println!("\ndrawn      {}", path.display());
     Ok(())
+}
+
+#[cfg(test)]
+mod tests {
+    use super::*;
+
+    /// What is checked holds of any session, not of the one that is shown.
+    #[test]
+    fn other_sessions() {
+        for seed in 0..30 {
+            let mut session = run(seed).unwrap();
+            check(&mut session);
+            assert!(chart::draw(&session).ends_with("</svg>\n"));
+        }
+    }
 }
