@@ -254,11 +254,12 @@ impl Host {
                 return Ok(());
             }
         }
-        if self.flight().filter(|chunk| !chunk.acked && !chunk.abandoned).count() < WINDOW {
-            if let Some(chunk) = self.sender.send_next(now)? {
-                self.messages.get_mut(&chunk.message_id).expect("it is known").sent += 1;
-                self.transmit(now, link, &chunk, Mark::Sent);
-            }
+        if self.flight().filter(|chunk| !chunk.acked && !chunk.abandoned).count() >= WINDOW {
+            return Ok(());
+        }
+        if let Some(chunk) = self.sender.send_next(now)? {
+            self.messages.get_mut(&chunk.message_id).expect("it is known").sent += 1;
+            self.transmit(now, link, &chunk, Mark::Sent);
         }
         Ok(())
     }
