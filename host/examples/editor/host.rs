@@ -1,0 +1,337 @@
+//! The plugin host's end: passes write trees, and what the archive says is done.
+
+use std::collections::{BTreeMap, BTreeSet, VecDeque};
+
+use girdermoth::{Chunk, FLIGHT_ROOM, PayloadProtocolIdentifier, Refusal, ReliabilityType, RtoManager, Sender, Timer, TimerTable};
+
+use crate::link::{Link, Packet};
+
+pub struct Channel {
+    pub stream: u16,
+    pub name: &'static str,
+    pub unordered: bool,
+    /// In milliseconds; none is for ever.
+    pub lifetime: Option<u32>,
+}
+
+pub const CHANNELS: [Channel; 3] = [
+    Channel { stream: 1, name: "types", unordered: false, lifetime: Some(150) },
+    Channel { stream: 2, name: "liveness", unordered: true, lifetime: Some(100) },
+    Channel { stream: 3, name: "problems", unordered: false, lifetime: None },
+];
+
+pub const PAYLOAD: u32 = 1200;
+/// The link takes one chunk in this many milliseconds.
+pub const SLOT: u64 = 4;
+/// So many chunks may be out and unanswered.
+const WINDOW: usize = 22;
+
+/// How a message ended, for the host.
+#[derive(Clone, Copy, Debug, PartialEq, Eq)]
+pub enum End {
+    Open,
+    Acknowledged,
+    /// Expired before any of it was sent.
+    Dropped,
+    /// Expired half sent: the terminator's TSN.
+    Cut(u32),
+    /// Expired with all of it sent, and not all acknowledged.
+    GivenUp,
+}
+
+/// A message that a pass has written.
+pub struct Message {
+    pub stream: u16,
+    pub version: u32,
+    pub offset: u64,
+    pub length: u64,
+    pub written: u64,
+    pub deadline: Option<u64>,
+    pub sent: usize,
+    pub acknowledged: usize,
+    pub end: End,
+    pub ended: u64,
+}
+
+impl Message {
+    pub fn fragments(&self) -> usize {
+        self.length.div_ceil(u64::from(PAYLOAD)) as usize
+    }
+}
+
+#[derive(Clone, Copy, PartialEq, Eq)]
+pub enum Mark {
+    Sent,
+    Retransmitted,
+    Acknowledged,
+    Abandoned,
+    Terminator,
+}
+
+/// Something that happened to a TSN, for the drawing; `at` counts TSNs from the first.
+pub struct Event {
+    pub time: u64,
+    pub at: u32,
+    pub mark: Mark,
+    pub stream: u16,
+}
+
+pub struct Host {
+    pub sender: Sender,
+    timers: TimerTable,
+    rto: RtoManager,
+    pub first_tsn: u32,
+    /// The oldest TSN that is still in the flight.
+    oldest: u32,
+    /// All bytes that were written: a chunk tells which of them it carries.
+    store: Vec<u8>,
+    pub messages: BTreeMap<u64, Message>,
+    pub events: Vec<Event>,
+    /// TSNs that are to be sent again; how often each was reported missing; those that were sent twice.
+    again: VecDeque<u32>,
+    missing: BTreeMap<u32, u32>,
+    twice: BTreeSet<u32>,
+    forwarded: Option<(u64, u32)>,
+    pub forwards: usize,
+    pub timeouts: usize,
+}
+
+impl Host {
+    pub fn new(first_tsn: u32) -> Result<Host, Refusal> {
+        let mut sender = Sender::new(first_tsn, 0);
+        for channel in &CHANNELS {
+            sender.open_stream(channel.stream, PAYLOAD)?;
+            let (kind, value) = channel.lifetime.map_or((ReliabilityType::Reliable, 0), |ms| (ReliabilityType::Timed, ms));
+            sender.set_reliability_params(channel.stream, channel.unordered, kind, value)?;
+        }
+        Ok(Host {
+            sender,
+            timers: TimerTable::new(None, None, 400)?,
+            rto: RtoManager::new(100, 60, 400)?,
+            first_tsn,
+            oldest: first_tsn,
+            store: Vec::new(),
+            messages: BTreeMap::new(),
+            events: Vec::new(),
+            again: VecDeque::new(),
+            missing: BTreeMap::new(),
+            twice: BTreeSet::new(),
+            forwarded: None,
+            forwards: 0,
+            timeouts: 0,
+        })
+    }
+
+    fn mark(&mut self, time: u64, chunk: &Chunk, mark: Mark) {
+        let at = chunk.tsn.wrapping_sub(self.first_tsn);
+        self.events.push(Event { time, at, mark, stream: chunk.stream_identifier });
+    }
+
+    /// The TSNs in flight, oldest first.
+    fn flight(&self) -> impl Iterator<Item = Chunk> + use<'_> {
+        let count = self.sender.next_tsn().wrapping_sub(self.oldest);
+        (0..count).filter_map(|at| self.sender.get(self.oldest.wrapping_add(at)))
+    }
+
+    fn release(&mut self, stream: u16, bytes: u64) -> Result<(), Refusal> {
+        self.sender.on_buffer_released(stream, bytes as i64).map(drop)
+    }
+
+    /// A pass writes a message about a version of the graph.
+    pub fn write(&mut self, now: u64, stream: u16, version: u32, bytes: &[u8]) -> Result<(), Refusal> {
+        let number = self.sender.next_message_id();
+        let (offset, length) = (self.store.len() as u64, bytes.len() as u64);
+        self.sender.write(stream, PayloadProtocolIdentifier::BINARY, offset, length)?;
+        self.store.extend_from_slice(bytes);
+        self.sender.start_timed_messages(now)?;
+        let lifetime = CHANNELS.iter().find(|channel| channel.stream == stream).and_then(|channel| channel.lifetime);
+        let deadline = lifetime.map(|ms| now + u64::from(ms));
+        let message = Message { stream, version, offset, length, written: now, deadline, sent: 0, acknowledged: 0, end: End::Open, ended: now };
+        self.messages.insert(number, message);
+        Ok(())
+    }
+
+    /// A message has been abandoned, and `next` was the next TSN before: what the sender must have done is checked.
+    fn abandoned(&mut self, now: u64, number: u64, next: u32) {
+        let message = &self.messages[&number];
+        let (half, fragments) = (message.sent < message.fragments(), message.sent);
+        assert_eq!(message.end, End::Open, "a message ends once");
+        assert!(fragments > 0, "what was never sent is dropped");
+        let entries: Vec<Chunk> = self.flight().filter(|chunk| chunk.message_id == number).collect();
+        assert!(entries.iter().all(|chunk| chunk.abandoned && chunk.length == 0), "all its entries are abandoned, and hold nothing");
+        let ends: Vec<&Chunk> = entries.iter().filter(|chunk| chunk.is_terminator()).collect();
+        let end = if half {
+            assert_eq!(ends.len(), 1, "a cut tree has one terminator");
+            assert_eq!((ends[0].tsn, self.sender.next_tsn()), (next, next.wrapping_add(1)), "it takes the next TSN, and no other is taken");
+            assert!(ends[0].ending_fragment && !ends[0].beginning_fragment && ends[0].since.is_none(), "it ends the message, and is not sent");
+            End::Cut(next)
+        } else {
+            assert_eq!((ends.len(), self.sender.next_tsn()), (0, next), "a tree that was sent whole has none");
+            End::GivenUp
+        };
+        for chunk in entries.iter().filter(|chunk| !chunk.acked) {
+            let mark = if chunk.is_terminator() { Mark::Terminator } else { Mark::Abandoned };
+            self.mark(now, chunk, mark);
+        }
+        let message = self.messages.get_mut(&number).expect("it is known");
+        (message.end, message.ended) = (end, now);
+    }
+
+    /// Gives up all that has expired. Called before anything is sent, so nothing leaves at or after its deadline.
+    fn expire(&mut self, now: u64) -> Result<(), Refusal> {
+        let mut list = [0; FLIGHT_ROOM];
+        for &tsn in self.sender.expired_inflight(now, &mut list)? {
+            let Some(chunk) = self.sender.get(tsn).filter(|chunk| !chunk.abandoned) else { continue };
+            let next = self.sender.next_tsn();
+            let gone = self.sender.abandon(tsn).expect("it is in flight");
+            self.release(gone.stream_identifier, gone.bytes)?;
+            self.abandoned(now, chunk.message_id, next);
+        }
+        loop {
+            let next = self.sender.next_tsn();
+            let head = self.sender.peek_pending().map(|chunk| chunk.message_id);
+            if let Some(gone) = self.sender.expire_pending(now)? {
+                let message = self.messages.get_mut(&head.expect("something was pending")).expect("it is known");
+                assert_eq!((message.sent, message.end, message.length), (0, End::Open, gone.bytes), "only what is wholly unsent is dropped");
+                assert_eq!(self.sender.next_tsn(), next, "a dropped tree takes no TSN");
+                (message.end, message.ended) = (End::Dropped, now);
+                self.release(gone.stream_identifier, gone.bytes)?;
+            } else if let Some(gone) = self.sender.expire_pending_tail(now)? {
+                self.release(gone.stream_identifier, gone.bytes)?;
+                self.abandoned(now, gone.message_id, next);
+            } else {
+                return Ok(());
+            }
+        }
+    }
+
+    fn transmit(&mut self, now: u64, link: &mut Link, chunk: &Chunk, mark: Mark) {
+        assert!(chunk.deadline.is_none_or(|deadline| now < deadline), "nothing leaves at or after its deadline");
+        assert!(!chunk.abandoned && !chunk.is_terminator(), "nothing abandoned leaves");
+        self.mark(now, chunk, mark);
+        let from = chunk.offset as usize;
+        link.send(
+            now,
+            Packet::Data {
+                tsn: chunk.tsn,
+                stream: chunk.stream_identifier,
+                ssn: chunk.stream_sequence_number,
+                unordered: chunk.unordered,
+                beginning: chunk.beginning_fragment,
+                ending: chunk.ending_fragment,
+                bytes: self.store[from..from + chunk.length as usize].to_vec(),
+            },
+        );
+    }
+
+    /// One millisecond of the host.
+    pub fn step(&mut self, now: u64, link: &mut Link) -> Result<(), Refusal> {
+        self.expire(now)?;
+        if self.timers.next_timeout().is_some_and(|due| due <= now) && self.timers.is_expired(Timer::T3RTX, now)?.expired {
+            self.timeouts += 1;
+            self.sender.mark_all_to_retransmit();
+            self.again = self.flight().filter(|chunk| chunk.retransmit).map(|chunk| chunk.tsn).collect();
+            self.timers.start(Timer::T3RTX, now, self.rto.get_rto())?;
+        }
+        self.forward(now, link);
+        if now.is_multiple_of(SLOT) {
+            self.send(now, link)?;
+        }
+        match self.sender.earliest_outstanding_tsn() {
+            Some(_) => self.timers.restart_if_stale(Timer::T3RTX, now, self.rto.get_rto()),
+            None => {
+                self.timers.stop(Timer::T3RTX);
+                Ok(())
+            }
+        }
+    }
+
+    fn send(&mut self, now: u64, link: &mut Link) -> Result<(), Refusal> {
+        while let Some(tsn) = self.again.pop_front() {
+            if let Some(chunk) = self.sender.get(tsn).filter(|chunk| !chunk.acked && !chunk.abandoned) {
+                self.twice.insert(tsn);
+                self.transmit(now, link, &chunk, Mark::Retransmitted);
+                return Ok(());
+            }
+        }
+        if self.flight().filter(|chunk| !chunk.acked && !chunk.abandoned).count() >= WINDOW {
+            return Ok(());
+        }
+        if let Some(chunk) = self.sender.send_next(now)? {
+            self.messages.get_mut(&chunk.message_id).expect("it is known").sent += 1;
+            self.transmit(now, link, &chunk, Mark::Sent);
+        }
+        Ok(())
+    }
+
+    /// The forward point: what is abandoned at the front of the flight need not be waited for. It is told again until it is acknowledged.
+    fn forward(&mut self, now: u64, link: &mut Link) {
+        let front: Vec<Chunk> = self.flight().take_while(|chunk| chunk.abandoned).collect();
+        let Some(last) = front.last() else { return };
+        if self.forwarded.is_some_and(|(when, tsn)| tsn == last.tsn && now < when + 3 * SLOT) {
+            return;
+        }
+        let mut streams = BTreeMap::new();
+        for chunk in front.iter().filter(|chunk| !chunk.unordered) {
+            streams.insert(chunk.stream_identifier, chunk.stream_sequence_number);
+        }
+        self.forwarded = Some((now, last.tsn));
+        self.forwards += 1;
+        link.send(now, Packet::Forward { tsn: last.tsn, streams: streams.into_iter().collect() });
+    }
+
+    fn acknowledge(&mut self, now: u64, tsn: u32) -> Result<(), Refusal> {
+        let Some(chunk) = self.sender.get(tsn).filter(|chunk| !chunk.acked) else { return Ok(()) };
+        let bytes = self.sender.mark_as_acked(tsn);
+        assert_eq!(bytes, u64::from(chunk.length));
+        if chunk.abandoned {
+            return Ok(());
+        }
+        self.release(chunk.stream_identifier, bytes)?;
+        self.mark(now, &chunk, Mark::Acknowledged);
+        if !self.twice.contains(&tsn) {
+            self.rto.set_new_rtt(now - chunk.since.expect("it was sent"))?;
+        }
+        self.timers.stop(Timer::T3RTX);
+        let message = self.messages.get_mut(&chunk.message_id).expect("it is known");
+        message.acknowledged += 1;
+        if message.acknowledged == message.fragments() {
+            (message.end, message.ended) = (End::Acknowledged, now);
+        }
+        Ok(())
+    }
+
+    /// An acknowledgement has come.
+    pub fn take(&mut self, now: u64, packet: Packet) -> Result<(), Refusal> {
+        let Packet::Sack { cumulative, beyond } = packet else { unreachable!("the editor only acknowledges") };
+        while self.sender.inflight_len() > 0 && cumulative.wrapping_sub(self.oldest) < 1 << 31 {
+            self.acknowledge(now, self.oldest)?;
+            self.sender.pop(self.oldest).expect("the oldest can be taken");
+            self.oldest = self.oldest.wrapping_add(1);
+        }
+        for &tsn in &beyond {
+            self.acknowledge(now, tsn)?;
+        }
+        // Three reports that a later one has come, and it is sent again.
+        let Some(&newest) = beyond.last() else { return Ok(()) };
+        let passed: Vec<u32> =
+            self.flight().take_while(|chunk| chunk.tsn != newest).filter(|chunk| !chunk.acked && !chunk.abandoned).map(|chunk| chunk.tsn).collect();
+        for tsn in passed {
+            let count = self.missing.entry(tsn).or_insert(0);
+            *count += 1;
+            if *count == 3 && !self.again.contains(&tsn) {
+                self.again.push_back(tsn);
+            }
+        }
+        Ok(())
+    }
+
+    pub fn idle(&self) -> bool {
+        self.sender.pending_len() == 0 && self.sender.inflight_len() == 0
+    }
+
+    /// The last round-trip estimate, and the RTO.
+    pub fn estimate(&self) -> (u64, u64) {
+        (self.rto.srtt(), self.rto.get_rto())
+    }
+}

@@ -1,0 +1,92 @@
+use std::fmt;
+
+/// Why a call was refused. A refused call changes nothing: not the state, not a lent list.
+#[derive(Clone, Copy, Debug, PartialEq, Eq, Hash)]
+#[repr(u8)]
+pub enum Refusal {
+    /// 1: a number is beyond its limit, and no other line names it: a clock above [`CLOCK_MAX`](crate::CLOCK_MAX), an offset, an interval, an
+    /// RTO setting or a round-trip time above 4,294,967,295.
+    BeyondLimit = 1,
+    /// 2: the payload maximum is outside 1 to 65,515, or the RTO minimum is above the maximum.
+    BadBounds = 2,
+    /// 3: the stream is not open.
+    NotOpen = 3,
+    /// 4: the stream is already open.
+    AlreadyOpen = 4,
+    /// 5: 64 streams are open.
+    StreamsFull = 5,
+    /// 6: the message is over 65,536 bytes.
+    MessageLong = 6,
+    /// 7: the stream's buffered amount would pass 4,294,967,295.
+    BufferFull = 7,
+    /// 8: the message's ring (256 chunks, one for ordered and one for unordered messages) lacks room for all its fragments.
+    RingFull = 8,
+    /// 9: the message has a fragment, and the next message number is 2^64 - 1.
+    NumbersSpent = 9,
+    /// 10: the flight holds 255 or more entries, and a chunk is pending. The last place is kept for a terminator.
+    FlightFull = 10,
+    /// 11: the lent list is shorter than the list of expired TSNs.
+    ListShort = 11,
+    /// 12: an expiry that would be counted finds the timer's count at 4,294,967,295.
+    CountFull = 12,
+}
+
+impl Refusal {
+    /// Every refusal, in the order of its number.
+    pub const ALL: [Refusal; 12] = [
+        Refusal::BeyondLimit,
+        Refusal::BadBounds,
+        Refusal::NotOpen,
+        Refusal::AlreadyOpen,
+        Refusal::StreamsFull,
+        Refusal::MessageLong,
+        Refusal::BufferFull,
+        Refusal::RingFull,
+        Refusal::NumbersSpent,
+        Refusal::FlightFull,
+        Refusal::ListShort,
+        Refusal::CountFull,
+    ];
+
+    /// The number that the archive answers, 1 to 12.
+    pub const fn number(self) -> u8 {
+        self as u8
+    }
+
+    /// The refusal of a number; nothing for 0, which is "done", and for numbers above 12.
+    pub const fn from_number(number: u8) -> Option<Refusal> {
+        match number {
+            1..=12 => Some(Refusal::ALL[number as usize - 1]),
+            _ => None,
+        }
+    }
+
+    /// A reply's refusal. No call answers a number above 12; an archive that does is not the one that this crate is written for.
+    pub(crate) fn check(number: u8) -> Result<(), Refusal> {
+        match number {
+            0 => Ok(()),
+            _ => Err(Refusal::from_number(number).expect("the archive answers 0 to 12")),
+        }
+    }
+}
+
+impl fmt::Display for Refusal {
+    fn fmt(&self, f: &mut fmt::Formatter<'_>) -> fmt::Result {
+        f.write_str(match self {
+            Refusal::BeyondLimit => "a number is beyond its limit",
+            Refusal::BadBounds => "the payload maximum is outside 1 to 65,515, or the RTO minimum is above the maximum",
+            Refusal::NotOpen => "the stream is not open",
+            Refusal::AlreadyOpen => "the stream is already open",
+            Refusal::StreamsFull => "64 streams are open, and there is room for no more",
+            Refusal::MessageLong => "the message is longer than 65,536 bytes",
+            Refusal::BufferFull => "the stream's buffered amount would pass 4,294,967,295 bytes",
+            Refusal::RingFull => "the ring of pending chunks lacks room for all fragments of the message",
+            Refusal::NumbersSpent => "the last message number is reached",
+            Refusal::FlightFull => "the flight is full but for the place that is kept for a terminator, and a chunk is pending",
+            Refusal::ListShort => "the lent list is shorter than the list of expired TSNs",
+            Refusal::CountFull => "the timer's count of expiries is at its limit",
+        })
+    }
+}
+
+impl std::error::Error for Refusal {}

@@ -1,0 +1,174 @@
+//! Each refusal that calls can reach: with its number, its sentence, and the order in which a call tests for it. The twelfth, a full count of
+//! a timer, takes four billion calls; it is tested inside the crate.
+
+use girdermoth::*;
+
+const BINARY: PayloadProtocolIdentifier = PayloadProtocolIdentifier::BINARY;
+
+fn open(maximum: u32) -> Sender {
+    let mut s = Sender::new(0, 0);
+    s.open_stream(1, maximum).unwrap();
+    s
+}
+
+#[test]
+fn numbers_and_sentences() {
+    let mut sentences = std::collections::HashSet::new();
+    for (at, refusal) in Refusal::ALL.into_iter().enumerate() {
+        assert_eq!(usize::from(refusal.number()), at + 1);
+        assert_eq!(Refusal::from_number(refusal.number()), Some(refusal));
+        let error: &dyn std::error::Error = &refusal;
+        assert!(error.to_string().len() > 20 && sentences.insert(error.to_string()));
+    }
+    assert_eq!((Refusal::from_number(0), Refusal::from_number(13), Refusal::from_number(255)), (None, None, None));
+}
+
+#[test]
+fn the_numbers_are_the_headers() {
+    let header = include_str!("../../include/girdermoth.h");
+    for refusal in Refusal::ALL {
+        let mut name = String::from("GIRDERMOTH");
+        for letter in format!("{refusal:?}").chars() {
+            if letter.is_uppercase() {
+                name.push('_');
+            }
+            name.push(letter.to_ascii_uppercase());
+        }
+        let line = format!("    {name} = {}", refusal.number());
+        assert!(header.lines().any(|l| l.strip_prefix(&line).is_some_and(|rest| !rest.starts_with(|c: char| c.is_ascii_digit()))), "{line}");
+    }
+}
+
+#[test]
+fn r1_beyond_a_limit() {
+    let mut s = open(1200);
+    let late = CLOCK_MAX + 1;
+    assert_eq!(s.write(1, BINARY, 4_294_967_296, 1), Err(Refusal::BeyondLimit));
+    assert_eq!(s.write(1, BINARY, 4_294_967_295, 1), Ok(false));
+    assert_eq!(s.send_next(late), Err(Refusal::BeyondLimit));
+    assert_eq!(s.start_timed_messages(late), Err(Refusal::BeyondLimit));
+    assert_eq!(s.expire_pending(late), Err(Refusal::BeyondLimit));
+    assert_eq!(s.expire_pending_tail(late), Err(Refusal::BeyondLimit));
+    assert_eq!(s.expired_inflight(late, &mut []), Err(Refusal::BeyondLimit));
+    assert!(s.send_next(CLOCK_MAX).unwrap().is_some());
+}
+
+#[test]
+fn r2_bad_bounds() {
+    let mut s = open(1200);
+    for maximum in [0, 65_516, u32::MAX] {
+        assert_eq!(s.open_stream(1, maximum), Err(Refusal::BadBounds), "before 4");
+        assert_eq!(s.open_stream(2, maximum), Err(Refusal::BadBounds));
+    }
+    assert_eq!(s.open_stream(2, PAYLOAD_MAX), Ok(()));
+    assert_eq!(s.open_stream(3, 1), Ok(()));
+    assert_eq!(RtoManager::new(0, 2, 1), Err(Refusal::BadBounds));
+}
+
+#[test]
+fn r3_not_open() {
+    let mut s = open(1200);
+    assert_eq!(s.write(2, BINARY, u64::MAX, u64::MAX), Err(Refusal::NotOpen), "before 6 and 1");
+    assert_eq!(s.set_reliability_params(2, true, ReliabilityType::Timed, 1), Err(Refusal::NotOpen));
+    assert_eq!(s.set_buffered_amount_low_threshold(2, 1), Err(Refusal::NotOpen));
+    assert_eq!(s.set_buffered_amount_high_threshold(2, 1), Err(Refusal::NotOpen));
+    assert_eq!(s.on_buffer_released(2, 1), Err(Refusal::NotOpen));
+    assert_eq!(s.buffered_amount(2), Err(Refusal::NotOpen));
+    assert_eq!(s.buffered_amount_low_threshold(2), Err(Refusal::NotOpen));
+    assert_eq!(s.buffered_amount_high_threshold(2), Err(Refusal::NotOpen));
+    assert_eq!(s.stats(2), Err(Refusal::NotOpen));
+}
+
+#[test]
+fn r4_r5_streams() {
+    let mut s = Sender::new(0, 0);
+    for stream in 0..STREAMS as u16 {
+        assert_eq!(s.open_stream(65_535 - stream, 1200), Ok(()));
+    }
+    assert_eq!(s.open_stream(65_535, 1200), Err(Refusal::AlreadyOpen), "before 5");
+    assert_eq!(s.open_stream(0, 1200), Err(Refusal::StreamsFull));
+}
+
+#[test]
+fn r6_a_long_message() {
+    let mut s = open(1200);
+    assert_eq!(s.write(1, BINARY, u64::MAX, MESSAGE_MAX + 1), Err(Refusal::MessageLong), "before 1");
+    assert_eq!(s.write(1, BINARY, 0, MESSAGE_MAX), Ok(false));
+    assert_eq!(s.pending_len(), 55);
+}
+
+#[test]
+fn r7_a_full_buffer() {
+    let mut s = open(PAYLOAD_MAX);
+    for round in 0..65_535u32 {
+        s.write(1, BINARY, 0, MESSAGE_MAX).unwrap();
+        for part in 0..2 {
+            let sent = s.send_next(0).unwrap().unwrap();
+            assert_eq!(sent.tsn, 2 * round + part);
+            s.pop(sent.tsn).unwrap();
+        }
+    }
+    s.write(1, BINARY, 0, 65_535).unwrap();
+    assert_eq!(s.buffered_amount(1), Ok(4_294_967_295));
+    assert_eq!(s.write(1, BINARY, 0, 1), Err(Refusal::BufferFull));
+    assert_eq!(s.write(1, BINARY, 0, 0), Ok(false));
+    s.on_buffer_released(1, 1).unwrap();
+    assert_eq!(s.write(1, BINARY, 0, 1), Ok(false));
+}
+
+#[test]
+fn r8_a_full_ring() {
+    let mut s = open(1);
+    assert_eq!(s.write(1, BINARY, 0, 257), Err(Refusal::RingFull));
+    assert_eq!(s.write(1, BINARY, 0, 256), Ok(false));
+    assert_eq!(s.write(1, BINARY, 0, 1), Err(Refusal::RingFull));
+    s.set_reliability_params(1, true, ReliabilityType::Reliable, 0).unwrap();
+    assert_eq!(s.write(1, BINARY, 0, 256), Ok(false), "the unordered ring is another");
+    assert_eq!((s.pending_len(), s.pending_bytes()), (2 * RING_ROOM, 512));
+}
+
+#[test]
+fn r9_numbers_spent() {
+    let mut s = Sender::new(0, u64::MAX - 1);
+    s.open_stream(1, 1200).unwrap();
+    assert_eq!(s.write(1, BINARY, 0, 1), Ok(false));
+    assert_eq!(s.next_message_id(), u64::MAX);
+    assert_eq!(s.write(1, BINARY, 0, 1), Err(Refusal::NumbersSpent));
+    assert_eq!(s.write(1, BINARY, 0, 0), Ok(false), "no fragment needs no number");
+    assert_eq!(s.buffered_amount(1), Ok(1));
+}
+
+#[test]
+fn r10_a_full_flight_keeps_a_place_for_a_terminator() {
+    let mut s = open(1);
+    s.write(1, BINARY, 0, 256).unwrap();
+    for _ in 0..255 {
+        assert!(s.send_next(0).unwrap().is_some());
+    }
+    assert_eq!(s.send_next(CLOCK_MAX + 1), Err(Refusal::BeyondLimit), "before 10");
+    assert_eq!(s.send_next(0), Err(Refusal::FlightFull));
+    assert_eq!(s.abandon(0), Some(Abandoned { stream_identifier: 1, bytes: 256 }));
+    assert_eq!(s.inflight_len(), FLIGHT_ROOM);
+    assert!(s.get(255).unwrap().is_terminator());
+    assert_eq!(s.send_next(0), Ok(None), "nothing is pending");
+    s.write(1, BINARY, 0, 1).unwrap();
+    s.pop(0).unwrap();
+    assert_eq!(s.send_next(0), Err(Refusal::FlightFull));
+    s.pop(1).unwrap();
+    assert_eq!(s.send_next(0).unwrap().unwrap().tsn, 256);
+}
+
+#[test]
+fn r11_a_short_list() {
+    let mut s = open(1200);
+    s.set_reliability_params(1, false, ReliabilityType::Timed, 0).unwrap();
+    s.write(1, BINARY, 0, 3_000).unwrap();
+    for _ in 0..3 {
+        s.send_next(4).unwrap();
+    }
+    let mut list = [7; 3];
+    assert_eq!(s.expired_inflight(4, &mut list[..2]), Err(Refusal::ListShort));
+    assert_eq!(list, [7; 3], "a refused call writes nothing");
+    assert_eq!(s.expired_inflight(4, &mut list), Ok(&[0, 1, 2][..]));
+    assert_eq!(s.expired_inflight(3, &mut []), Ok(&[][..]), "none has expired at 3");
+}
