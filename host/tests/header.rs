@@ -31,6 +31,7 @@ fn rust_type(c: &str, field: bool) -> String {
         "bool" => "bool".into(),
         "girdermoth_sender *" => "&mut Sender".into(),
         "const girdermoth_sender *" => "&Sender".into(),
+        "girdermoth_timer" => "FlatTimer".into(),
         _ => {
             let words = c.strip_prefix("girdermoth_").unwrap_or_else(|| panic!("what is {c}?")).split('_');
             words.map(|word| word[..1].to_uppercase() + &word[1..]).collect()
@@ -98,12 +99,22 @@ fn of_c(source: &str) -> Shapes {
     shapes
 }
 
+/// The header has the six timers as an array, in the order of its enum; the mirrors name each.
+fn with_named_timers(shape: &[String]) -> Vec<String> {
+    let names = ["t1_init", "t1_cookie", "t2_shutdown", "t3_rtx", "reconfig", "ack"];
+    let named = |part: &String| match part.as_str() {
+        "entries: [FlatTimer; 6]" => names.map(|name| format!("{name}: FlatTimer")).to_vec(),
+        _ => vec![part.clone()],
+    };
+    shape.iter().flat_map(named).collect()
+}
+
 #[test]
 fn the_mirrors_are_the_headers() {
     let (here, there) = (of_rust(SYS), of_c(HEADER));
-    assert!(there.len() >= 6 + 32, "the header is read: {:?}", there.keys());
+    assert!(there.len() >= 11 + 32 + 15, "the header is read: {:?}", there.keys());
     for (name, shape) in &there {
-        assert_eq!(here.get(name), Some(shape), "{name}");
+        assert_eq!(here.get(name), Some(&with_named_timers(shape)), "{name}");
     }
 }
 
