@@ -31,9 +31,6 @@ fn prove(root: &Path, name: &str) -> PathBuf {
 
 fn main() {
     println!("cargo::rerun-if-env-changed=GIRDERMOTH_ARCHIVE");
-    if env::var("CARGO_CFG_TARGET_ARCH").as_deref() != Ok("x86_64") || env::var("CARGO_CFG_TARGET_OS").as_deref() != Ok("linux") {
-        fail("the archive is for x86-64 Linux only");
-    }
     let out = PathBuf::from(env::var_os("OUT_DIR").expect("cargo sets OUT_DIR"));
     let archives: Vec<PathBuf> = match env::var_os("GIRDERMOTH_ARCHIVE") {
         Some(paths) => {
@@ -42,6 +39,9 @@ fn main() {
             paths
         }
         None => {
+            if env::var("CARGO_CFG_TARGET_ARCH").as_deref() != Ok("x86_64") || env::var("CARGO_CFG_TARGET_OS").as_deref() != Ok("linux") {
+                fail("`rt staticlib` compiles for x86-64 Linux only; name archives for another target in GIRDERMOTH_ARCHIVE");
+            }
             let here = PathBuf::from(env::var_os("CARGO_MANIFEST_DIR").expect("cargo sets CARGO_MANIFEST_DIR"));
             let Some(root) = here.parent() else { fail("the crate must stand in the repository, beside crates/") };
             if !root.join("crates.txt").is_file() {

@@ -68,13 +68,17 @@ abbrev pub blocked : Option Chunk → (room : ℕ) → (entries : List Chunk) �
 blocked none room f = false
 blocked (some c) room f = leb room (suc (length f))
 
+pub blocked-room : (h : Option Chunk) (room : ℕ) (f : List Chunk) → leb room (suc (length f)) ≡ false → false ≡ blocked h room f
+blocked-room none room f e = refl
+blocked-room (some c) room f e = sym e
+
 pub blocked-none : (h : Option Chunk) (room : ℕ) (f : List Chunk) → found h ≡ Found.Nothing → false ≡ blocked h room f
 blocked-none none room f e = refl
 blocked-none (some c) room f e = let z : _≡_ {A = ℕ} 0 1 = cc in absurd (omega arith)
 
-pub blocked-one : (h : Option Chunk) (c : Chunk) (room : ℕ) (f : List Chunk) → found h ≡ Found.One c → leb room (suc (length f)) ≡ blocked h room f
-blocked-one none c room f e = let z : _≡_ {A = ℕ} 0 1 = cc in absurd (omega arith)
-blocked-one (some d) c room f e = refl
+pub blocked-one : (h : Option Chunk) (c : Chunk) (room : ℕ) (f : List Chunk) → leb room (suc (length f)) ≡ true → found h ≡ Found.One c → true ≡ blocked h room f
+blocked-one none c room f full e = let z : _≡_ {A = ℕ} 0 1 = cc in absurd (omega arith)
+blocked-one (some d) c room f full e = sym full
 
 -- ---- the head's ring with lifetimes started
 

@@ -62,15 +62,18 @@ fn stamp(chunk: Chunk, clock: u64) -> Chunk
     }
 }
 
-// Whether there is a chunk to send, and no room for it.
+// Whether there is a chunk to send, and no room for it. The room is asked for first: it is a number, and a chunk has to be unpacked.
 fn is_blocked(q: OutboundQueue, cells: &[u64]) -> bool
     ensures { λ r. ⌜ r ≡ blocked (head (waiting q (ringsIn (now (cells .entry))))) (ringRoom (now (cells .entry))) (flying q (ringsIn (now (cells .entry))) .entries) ⌝ }
 {
-    let front = outbound_asks::peek_pending(q, cells);
-    let Found::One(_) = front else {
+    if !outbound_flight_steps::is_full(q, cells) {
         return false;
-    };
-    outbound_flight_steps::is_full(q, cells)
+    }
+    let front = outbound_asks::peek_pending(q, cells);
+    match front {
+        Found::One(_) => true,
+        Found::Nothing => false,
+    }
 }
 
 // The head goes to the flight, with lifetimes started. What is refused is refused before the first store.

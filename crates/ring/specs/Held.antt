@@ -4,7 +4,7 @@ use mathlib.Core.Path.{_≡_, refl, sym, ap, _∙_}
 use mathlib.Core.Bool.{Bool}
 use mathlib.Core.List.{List, [], _∷_, _++_}
 use Prim.Native.Nat.{ℕ, zero, suc, _+_, _-_, _%_, _≤_, _<_, min}
-use native.Mathlib.Nat.{not-suc-le-zero, le-of-suc-le-suc}
+use native.Mathlib.Nat.{mod-lt, not-suc-le-zero, le-of-suc-le-suc}
 use native.Mathlib.Omega.{arith}
 use lib.ListN.{length, getD, getElem?, set, drop}
 use lib.Dec.{ltb}
@@ -13,7 +13,7 @@ use Rattle.model.specs.declared.Chunk.{Chunk}
 use Rattle.model.specs.declared.Found.{Found}
 use Rattle.model.specs.Lists.{if_then_else_, first, adjust}
 use Rattle.model.specs.Flight.{found}
-use Rattle.rows.specs.Rounds.{cellOf, round, round-length, round-get, round-set, round-adjust, round-push, round-pop}
+use Rattle.rows.specs.Rounds.{cellOf, cell-low, round, round-length, round-get, round-set, round-adjust, round-push, round-pop}
 use Rattle.cells.specs.Slots.{roomOf, limit, length-slots}
 use Rattle.chunk_slot.specs.Chunks.{chunkIn, chunks, blankChunk}
 use Rattle.ring.specs.declared.Ring.{Ring}
@@ -79,6 +79,15 @@ get-out (x ∷ l) (suc i) h = get-out l i (le-of-suc-le-suc h)
 pub get-first : (l : List Chunk) → found (getElem? l 0) ≡ found (first l)
 get-first [] = refl
 get-first (x ∷ l) = refl
+
+-- where there is a first, it is in the slot of the start
+pub first-at : (r : Ring) (ws : List ℕ) (s : ℕ) → s ≡ r .start % roomOf ws → 0 < length (held r ws) → Found.One (getD (chunks ws) s blankChunk) ≡ found (first (held r ws))
+first-at r ws s e h =
+    let n : 0 < min (r .len) (roomOf ws) = omega (arith, length-held r ws) in
+    let z : 0 < roomOf ws = omega arith in
+    let l : s + 0 < roomOf ws = omega (arith, mod-lt (r .start) z) in
+    let k : s ≡ s + 0 = omega arith in
+    ap Found.One (held-get r ws 0 s (k ∙ cell-low (roomOf ws) (r .start) (r .len) 0 s e n l)) ∙ get-in (held r ws) 0 h ∙ get-first (held r ws)
 
 -- what an answer says of the list
 pub found-none : (l : List Chunk) → found (first l) ≡ Found.Nothing → l ≡ []

@@ -137,7 +137,12 @@ pub fn get(ring: Ring, cells: &[u64], i: usize) -> Found
 pub fn peek(ring: Ring, cells: &[u64]) -> Found
     ensures { λ r. ⌜ r ≡ found (first (held ring (now (cells .entry)))) ⌝ }
 {
-    get(ring, cells, 0)
+    if count(ring, cells) == 0 {
+        return Found::Nothing;
+    }
+    let start = fold(ring.start, cells::room(cells));
+    let chunk = chunk_slot::load(cells, start);
+    Found::One(chunk)
 }
 
 // The first chunk, or nothing, and the ring without it.

@@ -46,7 +46,7 @@ fn run() -> Result<bool, String> {
         scripts,
         calls,
         seed,
-        port: root.join("target/bin/replay"),
+        port: root.join("tools/replay"),
         script: None,
         long: true,
         without: None,

@@ -1,16 +1,38 @@
--- Element 0 is the first.
-use mathlib.Core.Path.{_∙_}
+-- Nothing, or what the slot of the start holds.
+use mathlib.Core.Path.{_∙_, ap}
+use Prim.Native.Nat.{ℕ, _%_}
+use native.Mathlib.Omega.{arith}
 use denote.Ref.{now}
-use Rattle.ring.specs.Held.{held, get-first}
+use Rattle.model.specs.declared.Found.{Found}
+use Rattle.ring.specs.Held.{held, length-held, get-out, get-first, first-at}
 use borrow.Author.Needs.{needs}
 use Rattle.ring.proofs.peek.Statement.{statement}
 use Rattle.ring.proofs.peek.Tie as tie
 
-get-requires : tie.Need-get-requires
-get-requires c κs = search needs
+count-requires : tie.Need-count-requires
+count-requires c κs = search needs
 
 returns : tie.Need-returns
-returns c = let a = c .before .before .args in c .get .ensures ∙ get-first (held (a .ring) (now (a .cells)))
+returns c =
+    let a = c .before .before .before .args in
+    let l = held (a .ring) (now (a .cells)) in
+    get-out l 0 (omega arith) ∙ get-first l
+
+room-requires : tie.Need-room-requires
+room-requires c κs = search needs
+
+fold-requires : tie.Need-fold-requires
+fold-requires c κs = let a = c .before .before .before .before .args in omega (arith, length-held (a .ring) (now (a .cells)))
+
+load-requires : tie.Need-load-requires
+load-requires c κs = search needs
+
+returns-2 : tie.Need-returns-2
+returns-2 c =
+    let a = c .before .before .before .before .before .before .args in
+    let s = c .before .fold .ensures ∙ ap (λ (k : ℕ). a .ring .start % k) (c .before .before .room .ensures) in
+    ap Found.One (c .load .ensures) ∙ first-at (a .ring) (now (a .cells)) (c .before .fold .result) s (omega arith)
 
 pub peek-spec : {M : Type 1} → statement M
-peek-spec = tie.close (tie.spec get-requires returns)
+peek-spec =
+    tie.close (tie.spec count-requires returns room-requires fold-requires load-requires returns-2)
