@@ -34,6 +34,8 @@
 //! ```
 #![deny(unsafe_code, missing_docs)]
 
+#[cfg(test)]
+mod any_bytes;
 mod chunk;
 mod refusal;
 mod rto;

@@ -61,6 +61,41 @@ impl Sender {
     };
 }
 
+#[cfg(test)]
+impl Sender {
+    /// A sender of any words.
+    pub(crate) fn of(mut word: impl FnMut() -> u64) -> Sender {
+        Sender {
+            head: Head {
+                unordered_start: word(),
+                unordered_len: word(),
+                ordered_start: word(),
+                ordered_len: word(),
+                pending_bytes: word(),
+                flight_start: word(),
+                flight_len: word(),
+                flight_bytes: word(),
+                next_message: word(),
+                next_unstarted: word(),
+                streams: word(),
+                oldest: word() as u32,
+                selected: word() as u8,
+                unordered_is_selected: word() as u8,
+            },
+            cells: std::array::from_fn(|_| word()),
+        }
+    }
+    /// Any flag but 0 is yes.
+    pub(crate) fn means_the_same(&self, other: &Sender) -> bool {
+        let plain = |head: &Head| Head {
+            selected: (head.selected != 0).into(),
+            unordered_is_selected: (head.unordered_is_selected != 0).into(),
+            ..head.clone()
+        };
+        self.cells == other.cells && plain(&self.head) == plain(&other.head)
+    }
+}
+
 #[repr(C)]
 pub(crate) struct Reply {
     pub(crate) value: u64,
