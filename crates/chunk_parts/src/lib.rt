@@ -25,16 +25,6 @@ pub fn number_at(cells: &[u64], i: usize) -> u64
     cells[i * 8]
 }
 
-// The bytes that slot i holds.
-pub fn length_at(cells: &[u64], i: usize) -> u32
-    ensures { λ r. ⌜ r ≡ getD (chunks (now (cells .entry))) i blankChunk .length ⌝ }
-{
-    if cells::room(cells) <= i {
-        return 0;
-    }
-    (cells[i * 8 + 5] % HIGH) as u32
-}
-
 // The stream of slot i.
 pub fn stream_at(cells: &[u64], i: usize) -> u16
     ensures { λ r. ⌜ r ≡ getD (chunks (now (cells .entry))) i blankChunk .message .stream ⌝ }

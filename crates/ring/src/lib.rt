@@ -23,11 +23,6 @@ pub struct Pushed {
     pub done: bool,
 }
 
-pub struct Popped {
-    pub ring: Ring,
-    pub front: Found,
-}
-
 // ---- positions
 
 // The start, brought below the room; a division only where it is not there already.
@@ -143,16 +138,4 @@ pub fn peek(ring: Ring, cells: &[u64]) -> Found
     let start = fold(ring.start, cells::room(cells));
     let chunk = chunk_slot::load(cells, start);
     Found::One(chunk)
-}
-
-// The first chunk, or nothing, and the ring without it.
-pub fn pop(ring: Ring, cells: &[u64]) -> Popped
-    ensures { λ r. ⌜ (held (r .ring) (now (cells .entry)) ≡ drop 1 (held ring (now (cells .entry)))) × (r .front ≡ found (first (held ring (now (cells .entry))))) ⌝ }
-{
-    let front = peek(ring, cells);
-    let rest = shorter(ring, cells);
-    Popped {
-        ring: rest,
-        front: front,
-    }
 }

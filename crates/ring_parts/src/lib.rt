@@ -20,14 +20,6 @@ pub fn nth_number(ring: Ring, cells: &[u64], i: usize) -> u64
     chunk_parts::number_at(cells, at)
 }
 
-// The bytes that the i-th holds, and 0 past the end.
-pub fn nth_length(ring: Ring, cells: &[u64], i: usize) -> u32
-    ensures { λ r. ⌜ r ≡ getD (held ring (now (cells .entry))) i blankChunk .length ⌝ }
-{
-    let at = ring::slot(ring, cells, i);
-    chunk_parts::length_at(cells, at)
-}
-
 // The stream of the i-th, and 0 past the end.
 pub fn nth_stream(ring: Ring, cells: &[u64], i: usize) -> u16
     ensures { λ r. ⌜ r ≡ getD (held ring (now (cells .entry))) i blankChunk .message .stream ⌝ }
