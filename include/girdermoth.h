@@ -45,9 +45,10 @@ enum { GIRDERMOTH_RELIABLE = 0, GIRDERMOTH_REXMIT = 1, GIRDERMOTH_TIMED = 2 };
 // The sender's numbers and slots. Nothing in them is for the caller.
 typedef struct {
     uint64_t unordered_start, unordered_len, ordered_start, ordered_len, pending_bytes;
-    uint64_t flight_start, flight_len, flight_bytes, next_message, next_unstarted, streams;
-    uint32_t oldest;
     uint8_t selected, unordered_is_selected;
+    uint64_t flight_start, flight_len;
+    uint32_t oldest;
+    uint64_t flight_bytes, next_message, next_unstarted, streams;
 } girdermoth_head;
 
 typedef struct {
@@ -86,8 +87,8 @@ typedef struct {
     uint8_t refusal;
 } girdermoth_counts;
 
-GIRDERMOTH_ASSERT(sizeof(girdermoth_head) == 96 && offsetof(girdermoth_head, oldest) == 88, "head");
-GIRDERMOTH_ASSERT(sizeof(girdermoth_sender) == 53344 && offsetof(girdermoth_sender, cells) == 96, "sender");
+GIRDERMOTH_ASSERT(sizeof(girdermoth_head) == 104 && offsetof(girdermoth_head, selected) == 40 && offsetof(girdermoth_head, flight_start) == 48 && offsetof(girdermoth_head, oldest) == 64 && offsetof(girdermoth_head, streams) == 96, "head");
+GIRDERMOTH_ASSERT(sizeof(girdermoth_sender) == 53352 && offsetof(girdermoth_sender, cells) == 104, "sender");
 GIRDERMOTH_ASSERT(sizeof(girdermoth_reply) == 16 && offsetof(girdermoth_reply, yes) == 9, "reply");
 GIRDERMOTH_ASSERT(sizeof(girdermoth_freed) == 24 && offsetof(girdermoth_freed, unordered) == 20, "freed");
 GIRDERMOTH_ASSERT(sizeof(girdermoth_fragment) == 72 && offsetof(girdermoth_fragment, retransmit) == 66, "fragment");

@@ -53,7 +53,7 @@ out += 'use Rattle.walkkit.proofs.%s.{%s}\n' % ('OnLook' if shared else 'OnHead
 out += 'use Rattle.%s.specs.Says%s\n' % (gcrate, ' ' + named if relation == Q else named)
 out += 'use Rattle.%s.specs.Says.{%s}\n' % (crate, Q)
 out += use('Rattle.%s.proofs.Shapes' % crate, names)
-out += 'use Rattle.flat.proofs.FlatHead as D\nuse Rattle.flat.proofs.%s as N\n' % row
+out += 'use Rattle.sender_head.proofs.Head as D\nuse Rattle.flat.proofs.%s as N\n' % row
 out += '' if shared else 'use Rattle.flat.proofs.%s as S\n' % said
 out += 'use Rattle.%s.proofs.Sender as R\n' % crate
 out += 'use Rattle·%(c)s.proofs.%(g)s as g\nuse Rattle·%(c)s.proofs.%(g)s.Symbol as g-def\nuse Rattle·%(c)s.proofs.%(g)s.Symbol.{name as #g}\nuse Rattle·%(c)s.proofs.%(g)s.Met as g-thm\n' % dict(c=gcrate, g=g)

@@ -78,6 +78,12 @@ static void fill(girdermoth_sender *s) {
     want(n.messages == 65536 && n.bytes == UINT32_MAX, "statistics", 31);
 }
 
+// but for the padding: 42 to 48, and 68 to 72
+static bool same_head(const girdermoth_head *a, const girdermoth_head *b) {
+    const char *x = (const char *)a, *y = (const char *)b;
+    return memcmp(x, y, 42) == 0 && memcmp(x + 48, y + 48, 20) == 0 && memcmp(x + 72, y + 72, 32) == 0;
+}
+
 int main(int argc, char **argv) {
     long turns = argc > 1 ? atol(argv[1]) : 2000;
     struct { uint64_t front[8]; girdermoth_sender s; uint64_t back[8]; } *g = malloc(sizeof *g);
@@ -89,8 +95,9 @@ int main(int argc, char **argv) {
         if (turn / CALLS % 2) { x.a %= GIRDERMOTH_CLOCK_MAX; x.b %= 70000; x.small = rnd() % 65600; }
         garbage(s, sizeof *s);
         if (turn / CALLS % 3 == 1) {   // a head whose numbers are small, so that rings are partly full
-            uint64_t *n = &s->head.unordered_start;
-            for (int i = 0; i < 11; i++) n[i] = rnd() % 300;
+            uint64_t *n[] = {&s->head.unordered_start, &s->head.unordered_len, &s->head.ordered_start, &s->head.ordered_len, &s->head.pending_bytes, &s->head.flight_start,
+                             &s->head.flight_len, &s->head.flight_bytes, &s->head.next_message, &s->head.next_unstarted, &s->head.streams};
+            for (int i = 0; i < 11; i++) *n[i] = rnd() % 300;
             x.tsn = s->head.oldest + rnd() % 300; x.id = (uint16_t)(s->cells[rnd() % 64 * 8] >> (rnd() % 4 * 16));
         }
         memset(g, 0xA5, sizeof *g); *was = *s; g->s = *s;
@@ -98,7 +105,7 @@ int main(int argc, char **argv) {
         any r = run(s, call, &x, l), q = run(&g->s, call, &x, m);
         calls += 2; refusals[r.part[1] % 13]++;
         want(memcmp(&r, &q, sizeof r) == 0, "two replies", call);
-        want(memcmp(&s->head, &g->s.head, 94) == 0 && memcmp(s->cells, g->s.cells, sizeof s->cells) == 0, "two senders", call);
+        want(same_head(&s->head, &g->s.head) && memcmp(s->cells, g->s.cells, sizeof s->cells) == 0, "two senders", call);
         want(memcmp(l, m, x.room * 4) == 0, "two lists", call);
         if (call >= FIRST_QUESTION || call == LIST) want(memcmp(s, was, sizeof *s) == 0, "a question wrote", call);
         if (r.part[1]) { for (size_t i = 0; i < x.room; i++) want(l[i] == 7, "a refusal wrote to the list", call); want(memcmp(s->cells, was->cells, sizeof s->cells) == 0, "a refusal wrote", call); }
@@ -123,7 +130,7 @@ int main(int argc, char **argv) {
             any r = run(s, call, &x, l), q = run(&g->s, call, &x, m);
             calls += 2; refusals[r.part[1] % 13]++;
             want(memcmp(&r, &q, sizeof r) == 0 && memcmp(l, m, x.room * 4) == 0, "other bytes in the cells changed a reply", call);
-            if (r.part[1] || call >= FIRST_QUESTION || call == LIST) want(memcmp(&s->head, &was->head, 94) == 0 && memcmp(s->cells, was->cells, sizeof s->cells) == 0, "a refusal or a question wrote", call);
+            if (r.part[1] || call >= FIRST_QUESTION || call == LIST) want(same_head(&s->head, &was->head) && memcmp(s->cells, was->cells, sizeof s->cells) == 0, "a refusal or a question wrote", call);
             free(l); free(m);
         }
         for (int i = 0; i < 8; i++) want(g->front[i] == 0xA5A5A5A5A5A5A5A5u && g->back[i] == 0xA5A5A5A5A5A5A5A5u, "a canary", -1);

@@ -18,15 +18,15 @@ pub(crate) struct Head {
     ordered_start: u64,
     ordered_len: u64,
     pending_bytes: u64,
+    selected: u8,
+    unordered_is_selected: u8,
     flight_start: u64,
     flight_len: u64,
+    oldest: u32,
     flight_bytes: u64,
     next_message: u64,
     next_unstarted: u64,
     streams: u64,
-    oldest: u32,
-    selected: u8,
-    unordered_is_selected: u8,
 }
 
 pub(crate) const CELLS: usize = 6656;
@@ -202,8 +202,8 @@ pub(crate) struct RtoReply {
 
 // What the header asserts, asserted of the mirrors.
 const _: () = {
-    assert!(size_of::<Head>() == 96 && align_of::<Head>() == 8 && offset_of!(Head, oldest) == 88 && offset_of!(Head, unordered_is_selected) == 93);
-    assert!(size_of::<Sender>() == 53344 && align_of::<Sender>() == 8 && offset_of!(Sender, cells) == 96);
+    assert!(size_of::<Head>() == 104 && align_of::<Head>() == 8 && offset_of!(Head, oldest) == 64 && offset_of!(Head, unordered_is_selected) == 41);
+    assert!(size_of::<Sender>() == 53352 && align_of::<Sender>() == 8 && offset_of!(Sender, cells) == 104);
     assert!(size_of::<Reply>() == 16 && align_of::<Reply>() == 8 && offset_of!(Reply, yes) == 9);
     assert!(size_of::<Freed>() == 24 && align_of::<Freed>() == 8 && offset_of!(Freed, unordered) == 20);
     assert!(size_of::<Fragment>() == 72 && align_of::<Fragment>() == 8 && offset_of!(Fragment, retransmit) == 66);

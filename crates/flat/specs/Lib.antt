@@ -1,3 +1,2 @@
--- Heads: what a flat head means. Calls: what a call over a flat head does, from what it does over a head.
-pub mod Heads
+-- Calls: what a call with a flat reply does, from what the call does.
 pub mod Calls

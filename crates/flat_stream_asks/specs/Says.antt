@@ -4,26 +4,26 @@ use mathlib.Core.List.{List, _++_}
 use Prim.Native.Nat.{ℕ}
 use Rattle.model.specs.Flight.{hasStream}
 use Rattle.model.specs.Streams.{find, amount, counts}
-use Rattle.flat.specs.declared.FlatHead.{FlatHead}
+use Rattle.sender_head.specs.declared.Head.{Head}
 use Rattle.flat.specs.declared.Reply.{Reply}
 use Rattle.flat.specs.declared.Counts.{Counts}
-use Rattle.flat.specs.Heads.{stateOf}
+use Rattle.sender_head.specs.Whole.{senderOf}
 use Rattle.flat_replies.specs.Replies.{yesOrNo, flatAmount, flatCounted}
 
-abbrev pub PendingContains : (identifier : ℕ) → FlatHead → List ℕ → Reply → Type 0
-PendingContains id h ws y = y ≡ yesOrNo (hasStream id (stateOf h ws .pending .unordered ++ stateOf h ws .pending .ordered))
+abbrev pub PendingContains : (identifier : ℕ) → Head → List ℕ → Reply → Type 0
+PendingContains id h ws y = y ≡ yesOrNo (hasStream id (senderOf h ws .pending .unordered ++ senderOf h ws .pending .ordered))
 
-abbrev pub Contains : (identifier : ℕ) → FlatHead → List ℕ → Reply → Type 0
-Contains id h ws y = y ≡ yesOrNo (hasStream id (stateOf h ws .pending .unordered ++ stateOf h ws .pending .ordered ++ stateOf h ws .flight .entries))
+abbrev pub Contains : (identifier : ℕ) → Head → List ℕ → Reply → Type 0
+Contains id h ws y = y ≡ yesOrNo (hasStream id (senderOf h ws .pending .unordered ++ senderOf h ws .pending .ordered ++ senderOf h ws .flight .entries))
 
-abbrev pub Buffered : (identifier : ℕ) → FlatHead → List ℕ → Reply → Type 0
-Buffered id h ws y = y ≡ flatAmount (amount (find id (stateOf h ws .streams)) (λ t. t .buffered))
+abbrev pub Buffered : (identifier : ℕ) → Head → List ℕ → Reply → Type 0
+Buffered id h ws y = y ≡ flatAmount (amount (find id (senderOf h ws .streams)) (λ t. t .buffered))
 
-abbrev pub Low : (identifier : ℕ) → FlatHead → List ℕ → Reply → Type 0
-Low id h ws y = y ≡ flatAmount (amount (find id (stateOf h ws .streams)) (λ t. t .low))
+abbrev pub Low : (identifier : ℕ) → Head → List ℕ → Reply → Type 0
+Low id h ws y = y ≡ flatAmount (amount (find id (senderOf h ws .streams)) (λ t. t .low))
 
-abbrev pub High : (identifier : ℕ) → FlatHead → List ℕ → Reply → Type 0
-High id h ws y = y ≡ flatAmount (amount (find id (stateOf h ws .streams)) (λ t. t .high))
+abbrev pub High : (identifier : ℕ) → Head → List ℕ → Reply → Type 0
+High id h ws y = y ≡ flatAmount (amount (find id (senderOf h ws .streams)) (λ t. t .high))
 
-abbrev pub Counted : (identifier : ℕ) → FlatHead → List ℕ → Counts → Type 0
-Counted id h ws y = y ≡ flatCounted (counts (find id (stateOf h ws .streams)))
+abbrev pub Counted : (identifier : ℕ) → Head → List ℕ → Counts → Type 0
+Counted id h ws y = y ≡ flatCounted (counts (find id (senderOf h ws .streams)))

@@ -20,10 +20,10 @@ use Rattle.walkkit.proofs.Reach.{Reach, field-of, whole-record}
 use Rattle.walkkit.proofs.Field.{Lends, lend-field, lend-numbers}
 use Rattle.walkkit.proofs.View.{Views, view-field, view-record, view-numbers}
 use Rattle.walkkit.proofs.OnHead.{State, count-big}
-use Rattle.flat.specs.declared.FlatHead.{FlatHead}
+use Rattle.sender_head.specs.declared.Head.{Head}
 use Rattle.lent.specs.declared.Sender.{Sender}
-use Rattle.flat.proofs.FlatHead as D
-use Rattle.flat.proofs.FlatHead.Laws as D′
+use Rattle.sender_head.proofs.Head as D
+use Rattle.sender_head.proofs.Head.Laws as D′
 use Rattle.flat.proofs.Reply as N
 use Rattle.flat.proofs.Reply.Laws as N′
 use Rattle.flat.proofs.Freed as Nf
@@ -46,9 +46,9 @@ abbrev pub count : ℕ
 count = 6656
 
 abbrev pub past : ℕ
-past = 96
+past = 104
 
-abbrev pub with-head : Sender → FlatHead → Sender
+abbrev pub with-head : Sender → Head → Sender
 with-head s g = record { head = g; cells = s .cells }
 
 abbrev pub with-cells : Sender → List ℕ → Sender
@@ -70,7 +70,7 @@ module _ {M : Type 1} (𝓤 : URA M) (H : Heap 𝓤) (A : Atoms 𝓤) (W : Given
   abbrev pub counts : Data 𝓤 H A W Nn.the-row
   counts = of-struct 𝓤 H A W Nn.the-type Nn′.the-laws Nn′.the-plain (λ y. tt) (λ y f. refl)
 
-  pub head-put : (h : Sender) (g : FlatHead) (b o : ℕ) → Reach 𝓤 H A W R.the-row D.the-row h (with-head h g) (h .head) g b o (o + 0)
+  pub head-put : (h : Sender) (g : Head) (b o : ℕ) → Reach 𝓤 H A W R.the-row D.the-row h (with-head h g) (h .head) g b o (o + 0)
   head-put h g b o = whole-record 𝓤 H A W D.the-type (field-of 𝓤 H A W R.the-type R′.the-laws 0 0 refl refl h (with-head h g) (R.struct .as-values h) g refl refl b o)
 
   pub cells-lent : (h : Sender) (b o : ℕ) → Lends 𝓤 H A W R.the-row (Array u64 count) (List ℕ) (λ y. y) h (h .cells) (with-cells h) b o (o + past)

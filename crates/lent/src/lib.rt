@@ -2,10 +2,10 @@
 // and copies the head out and in; no call copies the cells. A host that hands over any bytes at all is safe: each bit pattern of the struct is a
 // sender.
 use flat::Counts;
-use flat::FlatHead;
 use flat::Fragment;
 use flat::Freed;
 use flat::Reply;
+use sender_head::Head;
 ghost use Rattle.lent.specs.Says.{Init, Open, SetReliability, SetLow, SetHigh, Release, Write, StartLifetimes, Send, ExpirePending, ExpirePendingTail, Abandon};
 ghost use Rattle.lent.specs.Says.{Acknowledge, Pop, MarkAll, ExpiredInflight, Get, IsAbandoned, PeekPending, NextMessage, NextTsn, PendingLength, PendingBytes, InflightLength};
 ghost use Rattle.lent.specs.Says.{InflightBytes, EarliestOutstanding, PendingContainsStream, ContainsStream, BufferedAmount, LowThreshold, HighThreshold, Statistics};
@@ -13,7 +13,7 @@ ghost use Rattle.lent.specs.Says.{InflightBytes, EarliestOutstanding, Pe
 // 64 streams, and 256 slots in each ring and in the flight.
 #[repr(C)]
 pub struct Sender {
-    pub head: FlatHead,
+    pub head: Head,
     pub cells: [u64; 6656],
 }
 

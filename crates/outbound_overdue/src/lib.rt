@@ -18,7 +18,7 @@ ghost use Rattle.outbound_overdue.specs.Lean.{named, leanList, listedIn}
 fn under_way(q: OutboundQueue, cells: &[u64]) -> Pending
     ensures { λ r. ⌜ r ≡ named (numberUnderWay (waiting q (ringsIn (now (cells .entry))))) ⌝ }
 {
-    if !q.pending.selected {
+    if q.pending.selected == 0 {
         return Pending::Nothing;
     }
     let front = outbound_asks::peek_pending(q, cells);

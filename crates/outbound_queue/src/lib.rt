@@ -14,6 +14,7 @@ ghost use Rattle.model.specs.State.{fresh, withStreams};
 ghost use Rattle.model.specs.Flight.{acknowledge, pop, markAll};
 ghost use Rattle.outbound_queue.specs.Outbound.{senderOf, Counted};
 
+#[repr(C)]
 pub struct OutboundQueue {
     pub pending: PendingQueue,
     pub inflight: PayloadQueue,

@@ -13,6 +13,7 @@ ghost use Rattle.model.specs.Flight.{found};
 ghost use Rattle.cells.specs.Slots.{roomOf};
 ghost use Rattle.payload_queue.specs.Queue.{flightOf, Counted, filed, popped, outcome};
 
+#[repr(C)]
 pub struct PayloadQueue {
     pub ring: Ring,
     pub oldest: u32,

@@ -1,5 +1,5 @@
 -- The head is taken from its ring.
-use mathlib.Core.Path.{_≡_, refl, sym, ap, _∙_}
+use mathlib.Core.Path.{_≡_, refl, sym, ap, ap₂, _∙_}
 use mathlib.Core.Bool.{Bool, true, false, not}
 use mathlib.Core.List.{List, [], _∷_}
 use Prim.Native.Nat.{ℕ, _+_}
@@ -37,6 +37,9 @@ idle-ahead (c ∷ u) = ap laneOf (lt-ltb 0 (length (c ∷ u)) (omega arith))
 pub ahead-idle : {s : Bool} (b : Bool) (u : List Chunk) {n : ℕ} → s ≡ false → n ≡ length u → laneOf (ltb 0 n) ≡ laneAhead (underWayOf s b) u
 ahead-idle b u e q = ap (λ (k : ℕ). laneOf (ltb 0 k)) q ∙ idle-ahead u ∙ ap (λ (t : Bool). laneAhead (underWayOf t b) u) (sym e)
 
+pub ahead-sending : {s : Bool} (b : Bool) (u : List Chunk) → s ≡ true → laneOf b ≡ laneAhead (underWayOf s b) u
+ahead-sending b u e = sym (ap (λ (t : Bool). laneAhead (underWayOf t b) u) e)
+
 -- ---- the head is the front of its ring, as code reads it
 
 pub head-at : (p : Pending) {l : Lane} {f : Found} → l ≡ headLane p → f ≡ found (first (at l p)) → f ≡ found (head p)
@@ -60,10 +63,10 @@ flags-after : (e b : Bool) → underWayOf (not e) b ≡ (if e then Idle else und
 flags-after true b = refl
 flags-after false b = refl
 
-pub popped-one : (p : Pending) (b : Bool) (c : Chunk) {x : List Chunk} → laneOf b ≡ headLane p → found (head p) ≡ Found.One c → x ≡ drop 1 (at (laneOf b) p)
-    → withRing (laneOf b) (underWayOf (not (c .ending)) b) x p ≡ popped p
-popped-one p b c e q r =
-    ap (λ (y : List Chunk). withRing (laneOf b) (underWayOf (not (c .ending)) b) y p) r
+pub popped-one : (p : Pending) (b : Bool) (c : Chunk) {s : Bool} {x : List Chunk} → s ≡ not (c .ending) → laneOf b ≡ headLane p → found (head p) ≡ Found.One c → x ≡ drop 1 (at (laneOf b) p)
+    → withRing (laneOf b) (underWayOf s b) x p ≡ popped p
+popped-one p b c t e q r =
+    ap₂ (λ (s : Bool) (y : List Chunk). withRing (laneOf b) (underWayOf s b) y p) t r
     ∙ ap (λ (w : UnderWay). withRing (laneOf b) w (drop 1 (at (laneOf b) p)) p) (flags-after (c .ending) b)
     ∙ ap (λ (l : Lane). withRing l (underWayAfter l c) (drop 1 (at l p)) p) e
     ∙ one-from p (headLane p) (at (headLane p) p) c q

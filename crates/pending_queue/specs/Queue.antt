@@ -1,11 +1,12 @@
 -- What a queue of pending chunks means, and the kept sum of its bytes.
 use mathlib.Core.Path.{_≡_, refl, ap, _∙_}
-use mathlib.Core.Bool.{Bool, true, false, _||_, or-assoc}
+use mathlib.Core.Bool.{Bool, true, false, not, _||_, or-assoc}
 use mathlib.Core.List.{List, [], _∷_, _++_, map}
 use Prim.Native.Nat.{ℕ, _+_, _%_, _^_, _<_}
 use native.Mathlib.Omega.{arith}
 use lib.ListN.{length}
 use lib.Dec.{eqb}
+use borrow.Author.Tests.{eq-eqb, ne-eqb}
 use Rattle.model.specs.declared.Chunk.{Chunk}
 use Rattle.model.specs.declared.UnderWay.{UnderWay}
 use Rattle.model.specs.declared.UnderWay.the-variants.{Idle, Sending}
@@ -18,6 +19,16 @@ use Rattle.ring.specs.Held.{held, length-held}
 use Rattle.ring.specs.Sums.{bytes-map, held-bytes}
 use Rattle.pending_queue.specs.declared.PendingQueue.{PendingQueue}
 
+-- any byte but 0 is yes
+abbrev pub isSet : ℕ → Bool
+isSet n = not (eqb n 0)
+
+pub is-set : {n : ℕ} → (n ≡ 0 → ⊥) → isSet n ≡ true
+is-set {n} h = ap not (ne-eqb n 0 h)
+
+pub not-set : {n : ℕ} → n ≡ 0 → isSet n ≡ false
+not-set {n} h = ap not (eq-eqb n 0 h)
+
 -- the two flags are the model's `underWay`; the second means nothing without the first
 abbrev pub underWayOf : (selected unorderedSelected : Bool) → UnderWay
 underWayOf true u = Sending (laneOf u)
@@ -26,7 +37,7 @@ underWayOf false u = Idle
 -- what is pending, by the numbers and the cells of the two rings
 abbrev pub pendingIn : PendingQueue → (unordered ordered : List ℕ) → Pending
 pendingIn q u o =
-    record { underWay = underWayOf (q .selected) (q .«unordered_is_selected»); unordered = held (q .unordered) u; ordered = held (q .ordered) o }
+    record { underWay = underWayOf (isSet (q .selected)) (isSet (q .«unordered_is_selected»)); unordered = held (q .unordered) u; ordered = held (q .ordered) o }
 
 -- nothing is, as in a fresh sender
 abbrev pub noPending : Pending

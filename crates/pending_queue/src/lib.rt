@@ -12,18 +12,19 @@ ghost use Rattle.model.specs.State.{laneOf};
 ghost use Rattle.model.specs.Rings.{laneAhead, head};
 ghost use Rattle.model.specs.Flight.{found};
 ghost use Rattle.ring.specs.Held.{held};
-ghost use Rattle.pending_queue.specs.Queue.{underWayOf, noPending, pendingIn, Counted};
+ghost use Rattle.pending_queue.specs.Queue.{isSet, underWayOf, noPending, pendingIn, Counted};
 ghost use Rattle.pending_queue.specs.Adding.{withAdded};
 ghost use Rattle.pending_queue.specs.Fronts.{popped};
 ghost use Rattle.pending_queue.specs.Lifetimes.{startedEnd};
 
-// `selected` says that a message has been sent in part, and `unordered_is_selected` in which ring its rest is.
+// `selected` says that a message has been sent in part, and `unordered_is_selected` in which ring its rest is: any byte but 0 is yes.
+#[repr(C)]
 pub struct PendingQueue {
     pub unordered: Ring,
     pub ordered: Ring,
     pub bytes: u64,
-    pub selected: bool,
-    pub unordered_is_selected: bool,
+    pub selected: u8,
+    pub unordered_is_selected: u8,
 }
 
 pub struct Popped {
@@ -40,8 +41,8 @@ pub fn new() -> PendingQueue
         unordered: empty,
         ordered: empty,
         bytes: 0,
-        selected: false,
-        unordered_is_selected: false,
+        selected: 0,
+        unordered_is_selected: 0,
     }
 }
 
@@ -49,10 +50,10 @@ pub fn new() -> PendingQueue
 
 // Whether the next chunk is the unordered front.
 fn from_unordered(queue: PendingQueue, unordered: &[u64]) -> bool
-    ensures { λ r. ⌜ laneOf r ≡ laneAhead (underWayOf (queue .selected) (queue .«unordered_is_selected»)) (held (queue .unordered) (now (unordered .entry))) ⌝ }
+    ensures { λ r. ⌜ laneOf r ≡ laneAhead (underWayOf (isSet (queue .selected)) (isSet (queue .«unordered_is_selected»))) (held (queue .unordered) (now (unordered .entry))) ⌝ }
 {
-    if queue.selected {
-        return queue.unordered_is_selected;
+    if queue.selected != 0 {
+        return queue.unordered_is_selected != 0;
     }
     0 < ring::count(queue.unordered, unordered)
 }
@@ -67,6 +68,15 @@ pub fn peek(queue: PendingQueue, unordered: &[u64], ordered: &[u64]) -> Found
     ring::peek(queue.ordered, ordered)
 }
 
+fn flag(b: bool) -> u8
+    ensures { λ r. ⌜ isSet r ≡ b ⌝ }
+{
+    if b {
+        return 1;
+    }
+    0
+}
+
 // Takes that chunk. One that does not end its message puts this under way.
 pub fn pop(queue: PendingQueue, unordered: &[u64], ordered: &[u64]) -> Popped
     ensures { λ r. ⌜ (pendingIn (r .queue) (now (unordered .entry)) (now (ordered .entry)) ≡ popped (pendingIn queue (now (unordered .entry)) (now (ordered .entry)))) × (r .front ≡ found (head (pendingIn queue (now (unordered .entry)) (now (ordered .entry))))) × (Counted queue (now (unordered .entry)) (now (ordered .entry)) → Counted (r .queue) (now (unordered .entry)) (now (ordered .entry))) ⌝ }
@@ -79,7 +89,7 @@ pub fn pop(queue: PendingQueue, unordered: &[u64], ordered: &[u64]) -> Popped
         };
     };
     let bytes = std::num::wrapping_sub_u64(queue.bytes, chunk.length as u64);
-    let selected = !chunk.ending;
+    let selected = flag(!chunk.ending);
     let unordered_ring = queue.unordered;
     let ordered_ring = queue.ordered;
     if from_unordered(queue, unordered) {
@@ -90,7 +100,7 @@ pub fn pop(queue: PendingQueue, unordered: &[u64], ordered: &[u64]) -> Popped
                 ordered: ordered_ring,
                 bytes: bytes,
                 selected: selected,
-                unordered_is_selected: true,
+                unordered_is_selected: 1,
             },
             front: front,
         };
@@ -102,7 +112,7 @@ pub fn pop(queue: PendingQueue, unordered: &[u64], ordered: &[u64]) -> Popped
             ordered: rest,
             bytes: bytes,
             selected: selected,
-            unordered_is_selected: false,
+            unordered_is_selected: 0,
         },
         front: front,
     }

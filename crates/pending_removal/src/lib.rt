@@ -12,7 +12,7 @@ ghost use Rattle.model.specs.Flight.{found};
 ghost use Rattle.demands.specs.States.{dropRun};
 ghost use Rattle.rows.specs.Walks.{takeWhile};
 ghost use Rattle.ring.specs.Held.{held};
-ghost use Rattle.pending_queue.specs.Queue.{underWayOf, pendingIn, Counted};
+ghost use Rattle.pending_queue.specs.Queue.{isSet, underWayOf, pendingIn, Counted};
 ghost use Rattle.pending_queue.specs.Runs.{laterOf, runs, withoutRuns};
 
 // `bytes` is what the removed chunks held, and `last` the last of them.
@@ -68,15 +68,15 @@ fn later(first: Found, second: Found) -> Found
 }
 
 // Whether a message is still under way without this one.
-fn still_selected(queue: PendingQueue, unordered: &[u64], ordered: &[u64], number: u64) -> bool
-    ensures { λ r. ⌜ underWayOf r (queue .«unordered_is_selected») ≡ ended number (head (pendingIn queue (now (unordered .entry)) (now (ordered .entry)))) (underWayOf (queue .selected) (queue .«unordered_is_selected»)) ⌝ }
+fn still_selected(queue: PendingQueue, unordered: &[u64], ordered: &[u64], number: u64) -> u8
+    ensures { λ r. ⌜ underWayOf (isSet r) (isSet (queue .«unordered_is_selected»)) ≡ ended number (head (pendingIn queue (now (unordered .entry)) (now (ordered .entry)))) (underWayOf (isSet (queue .selected)) (isSet (queue .«unordered_is_selected»))) ⌝ }
 {
     let front = pending_queue::peek(queue, unordered, ordered);
     let Found::One(chunk) = front else {
         return queue.selected;
     };
     if chunk.message.number == number {
-        return false;
+        return 0;
     }
     queue.selected
 }

@@ -13,6 +13,7 @@ ghost use Rattle.cells.specs.Slots.{roomOf};
 ghost use Rattle.chunk_slot.specs.Chunks.{blankChunk};
 ghost use Rattle.ring.specs.Held.{slotOf, held, pushed};
 
+#[repr(C)]
 pub struct Ring {
     pub start: usize,
     pub len: usize,

@@ -10,6 +10,7 @@ ghost use Rattle.model.specs.State.{fresh};
 ghost use Rattle.sender_head.specs.Whole.{tableWords, senderOf, Counted};
 
 // `streams` is how many are open.
+#[repr(C)]
 pub struct Head {
     pub queue: OutboundQueue,
     pub streams: usize,

@@ -6,7 +6,7 @@ use sender_head::Head;
 
 // The number of the message whose rest is pending, or a dash.
 fn under_way(h: Head, cells: &[u64], out: &mut [u8], at: usize) -> usize {
-    if h.queue.pending.selected {
+    if h.queue.pending.selected != 0 {
         let front = sender_asks::peek_pending(h, cells);
         if let Found::One(chunk) = front {
             return answers::number(out, at, b" underway=", chunk.message.number);

@@ -8,9 +8,6 @@ use borrow.Author.Needs.{needs}
 use Rattle.flat_asks.proofs.earliest_outstanding.Statement.{statement}
 use Rattle.flat_asks.proofs.earliest_outstanding.Tie as tie
 
-unpacked-requires : tie.Need-unpacked-requires
-unpacked-requires c κs = search needs
-
 earliest-outstanding-requires : tie.Need-earliest-outstanding-requires
 earliest-outstanding-requires c κs = search needs
 
@@ -19,9 +16,9 @@ earliest-requires c κs = search needs
 
 returns : tie.Need-returns
 returns c =
-    let a = c .before .before .before .before .args in
-    asks flatEarliest (a .head) (now (a .cells)) (c .before .before .unpacked .ensures) (c .earliest .ensures) (λ (s : Sender). earliestOutstanding s) (c .before .earliest-outstanding .ensures)
+    let a = c .before .before .before .args in
+    asks flatEarliest (a .head) (now (a .cells)) (c .earliest .ensures) (λ (s : Sender). earliestOutstanding s) (c .before .earliest-outstanding .ensures)
 
 pub earliest-outstanding-spec : {M : Type 1} → statement M
 earliest-outstanding-spec =
-    tie.close (tie.spec unpacked-requires earliest-outstanding-requires earliest-requires returns)
+    tie.close (tie.spec earliest-outstanding-requires earliest-requires returns)

@@ -8,9 +8,6 @@ use borrow.Author.Needs.{needs}
 use Rattle.flat_asks.proofs.get.Statement.{statement}
 use Rattle.flat_asks.proofs.get.Tie as tie
 
-unpacked-requires : tie.Need-unpacked-requires
-unpacked-requires c κs = search needs
-
 get-requires : tie.Need-get-requires
 get-requires c κs = search needs
 
@@ -19,8 +16,8 @@ found-requires c κs = search needs
 
 returns : tie.Need-returns
 returns c =
-    let a = c .before .before .before .before .args in
-    asks (flatFound (a .tsn)) (a .head) (now (a .cells)) (c .before .before .unpacked .ensures) (c .found .ensures) (λ (s : Sender). found (inFlight (a .tsn) (s .flight))) (c .before .get .ensures)
+    let a = c .before .before .before .args in
+    asks (flatFound (a .tsn)) (a .head) (now (a .cells)) (c .found .ensures) (λ (s : Sender). found (inFlight (a .tsn) (s .flight))) (c .before .get .ensures)
 
 pub get-spec : {M : Type 1} → statement M
-get-spec = tie.close (tie.spec unpacked-requires get-requires found-requires returns)
+get-spec = tie.close (tie.spec get-requires found-requires returns)

@@ -8,9 +8,6 @@ use borrow.Author.Needs.{needs}
 use Rattle.flat_asks.proofs.inflight_bytes.Statement.{statement}
 use Rattle.flat_asks.proofs.inflight_bytes.Tie as tie
 
-unpacked-requires : tie.Need-unpacked-requires
-unpacked-requires c κs = search needs
-
 inflight-bytes-requires : tie.Need-inflight-bytes-requires
 inflight-bytes-requires c κs = search needs
 
@@ -19,9 +16,9 @@ number-requires c κs = search needs
 
 returns : tie.Need-returns
 returns c =
-    let a = c .before .before .before .before .args in
-    asks-kept numberIs (a .head) (now (a .cells)) (c .before .before .unpacked .ensures) (c .number .ensures) (λ (s : Sender). bytes (s .flight .entries)) (c .before .inflight-bytes .ensures (now (a .cells)))
+    let a = c .before .before .before .args in
+    asks-kept numberIs (a .head) (now (a .cells)) (c .number .ensures) (λ (s : Sender). bytes (s .flight .entries)) (c .before .inflight-bytes .ensures (now (a .cells)))
 
 pub inflight-bytes-spec : {M : Type 1} → statement M
 inflight-bytes-spec =
-    tie.close (tie.spec unpacked-requires inflight-bytes-requires number-requires returns)
+    tie.close (tie.spec inflight-bytes-requires number-requires returns)

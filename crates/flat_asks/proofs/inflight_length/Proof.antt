@@ -8,9 +8,6 @@ use borrow.Author.Needs.{needs}
 use Rattle.flat_asks.proofs.inflight_length.Statement.{statement}
 use Rattle.flat_asks.proofs.inflight_length.Tie as tie
 
-unpacked-requires : tie.Need-unpacked-requires
-unpacked-requires c κs = search needs
-
 inflight-length-requires : tie.Need-inflight-length-requires
 inflight-length-requires c κs = search needs
 
@@ -19,9 +16,9 @@ number-requires c κs = search needs
 
 returns : tie.Need-returns
 returns c =
-    let a = c .before .before .before .before .args in
-    asks numberIs (a .head) (now (a .cells)) (c .before .before .unpacked .ensures) (c .number .ensures) (λ (s : Sender). length (s .flight .entries)) (c .before .inflight-length .ensures)
+    let a = c .before .before .before .args in
+    asks numberIs (a .head) (now (a .cells)) (c .number .ensures) (λ (s : Sender). length (s .flight .entries)) (c .before .inflight-length .ensures)
 
 pub inflight-length-spec : {M : Type 1} → statement M
 inflight-length-spec =
-    tie.close (tie.spec unpacked-requires inflight-length-requires number-requires returns)
+    tie.close (tie.spec inflight-length-requires number-requires returns)

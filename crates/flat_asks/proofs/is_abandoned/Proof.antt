@@ -8,9 +8,6 @@ use borrow.Author.Needs.{needs}
 use Rattle.flat_asks.proofs.is_abandoned.Statement.{statement}
 use Rattle.flat_asks.proofs.is_abandoned.Tie as tie
 
-unpacked-requires : tie.Need-unpacked-requires
-unpacked-requires c κs = search needs
-
 is-abandoned-requires : tie.Need-is-abandoned-requires
 is-abandoned-requires c κs = search needs
 
@@ -19,9 +16,9 @@ yes-or-no-requires c κs = search needs
 
 returns : tie.Need-returns
 returns c =
-    let a = c .before .before .before .before .args in
-    asks yesOrNo (a .head) (now (a .cells)) (c .before .before .unpacked .ensures) (c .yes-or-no .ensures) (λ (s : Sender). isAbandoned (inFlight (a .tsn) (s .flight))) (c .before .is-abandoned .ensures)
+    let a = c .before .before .before .args in
+    asks yesOrNo (a .head) (now (a .cells)) (c .yes-or-no .ensures) (λ (s : Sender). isAbandoned (inFlight (a .tsn) (s .flight))) (c .before .is-abandoned .ensures)
 
 pub is-abandoned-spec : {M : Type 1} → statement M
 is-abandoned-spec =
-    tie.close (tie.spec unpacked-requires is-abandoned-requires yes-or-no-requires returns)
+    tie.close (tie.spec is-abandoned-requires yes-or-no-requires returns)

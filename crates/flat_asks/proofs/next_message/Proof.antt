@@ -7,9 +7,6 @@ use borrow.Author.Needs.{needs}
 use Rattle.flat_asks.proofs.next_message.Statement.{statement}
 use Rattle.flat_asks.proofs.next_message.Tie as tie
 
-unpacked-requires : tie.Need-unpacked-requires
-unpacked-requires c κs = search needs
-
 next-message-requires : tie.Need-next-message-requires
 next-message-requires c κs = search needs
 
@@ -18,9 +15,9 @@ number-requires c κs = search needs
 
 returns : tie.Need-returns
 returns c =
-    let a = c .before .before .before .before .args in
-    asks numberIs (a .head) (now (a .cells)) (c .before .before .unpacked .ensures) (c .number .ensures) (λ (s : Sender). s .numbers .next) (c .before .next-message .ensures (now (a .cells)))
+    let a = c .before .before .before .args in
+    asks numberIs (a .head) (now (a .cells)) (c .number .ensures) (λ (s : Sender). s .numbers .next) (c .before .next-message .ensures (now (a .cells)))
 
 pub next-message-spec : {M : Type 1} → statement M
 next-message-spec =
-    tie.close (tie.spec unpacked-requires next-message-requires number-requires returns)
+    tie.close (tie.spec next-message-requires number-requires returns)

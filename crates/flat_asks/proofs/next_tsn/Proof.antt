@@ -7,9 +7,6 @@ use borrow.Author.Needs.{needs}
 use Rattle.flat_asks.proofs.next_tsn.Statement.{statement}
 use Rattle.flat_asks.proofs.next_tsn.Tie as tie
 
-unpacked-requires : tie.Need-unpacked-requires
-unpacked-requires c κs = search needs
-
 next-tsn-requires : tie.Need-next-tsn-requires
 next-tsn-requires c κs = search needs
 
@@ -21,9 +18,9 @@ number-requires c κs = search needs
 
 returns : tie.Need-returns
 returns c =
-    let a = c .before .before .before .before .args in
-    asks numberIs (a .head) (now (a .cells)) (c .before .before .unpacked .ensures) (c .number .ensures) (λ (s : Sender). nextTsn s) (c .before .next-tsn .ensures)
+    let a = c .before .before .before .args in
+    asks numberIs (a .head) (now (a .cells)) (c .number .ensures) (λ (s : Sender). nextTsn s) (c .before .next-tsn .ensures)
 
 pub next-tsn-spec : {M : Type 1} → statement M
 next-tsn-spec =
-    tie.close (tie.spec unpacked-requires next-tsn-requires cast-number number-requires returns)
+    tie.close (tie.spec next-tsn-requires cast-number number-requires returns)

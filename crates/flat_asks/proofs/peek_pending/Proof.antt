@@ -9,9 +9,6 @@ use borrow.Author.Needs.{needs}
 use Rattle.flat_asks.proofs.peek_pending.Statement.{statement}
 use Rattle.flat_asks.proofs.peek_pending.Tie as tie
 
-unpacked-requires : tie.Need-unpacked-requires
-unpacked-requires c κs = search needs
-
 peek-pending-requires : tie.Need-peek-pending-requires
 peek-pending-requires c κs = search needs
 
@@ -20,9 +17,9 @@ found-requires c κs = search needs
 
 returns : tie.Need-returns
 returns c =
-    let a = c .before .before .before .before .args in
-    asks (flatFound 0) (a .head) (now (a .cells)) (c .before .before .unpacked .ensures) (c .found .ensures) (λ (s : Sender). found (head (s .pending))) (c .before .peek-pending .ensures)
+    let a = c .before .before .before .args in
+    asks (flatFound 0) (a .head) (now (a .cells)) (c .found .ensures) (λ (s : Sender). found (head (s .pending))) (c .before .peek-pending .ensures)
 
 pub peek-pending-spec : {M : Type 1} → statement M
 peek-pending-spec =
-    tie.close (tie.spec unpacked-requires peek-pending-requires found-requires returns)
+    tie.close (tie.spec peek-pending-requires found-requires returns)

@@ -9,9 +9,6 @@ use borrow.Author.Needs.{needs}
 use Rattle.flat_asks.proofs.pending_bytes.Statement.{statement}
 use Rattle.flat_asks.proofs.pending_bytes.Tie as tie
 
-unpacked-requires : tie.Need-unpacked-requires
-unpacked-requires c κs = search needs
-
 pending-bytes-requires : tie.Need-pending-bytes-requires
 pending-bytes-requires c κs = search needs
 
@@ -20,9 +17,9 @@ number-requires c κs = search needs
 
 returns : tie.Need-returns
 returns c =
-    let a = c .before .before .before .before .args in
-    asks-kept numberIs (a .head) (now (a .cells)) (c .before .before .unpacked .ensures) (c .number .ensures) (λ (s : Sender). bytes (s .pending .unordered) + bytes (s .pending .ordered)) (c .before .pending-bytes .ensures (now (a .cells)))
+    let a = c .before .before .before .args in
+    asks-kept numberIs (a .head) (now (a .cells)) (c .number .ensures) (λ (s : Sender). bytes (s .pending .unordered) + bytes (s .pending .ordered)) (c .before .pending-bytes .ensures (now (a .cells)))
 
 pub pending-bytes-spec : {M : Type 1} → statement M
 pending-bytes-spec =
-    tie.close (tie.spec unpacked-requires pending-bytes-requires number-requires returns)
+    tie.close (tie.spec pending-bytes-requires number-requires returns)

@@ -9,9 +9,6 @@ use borrow.Author.Needs.{needs}
 use Rattle.flat_asks.proofs.pending_length.Statement.{statement}
 use Rattle.flat_asks.proofs.pending_length.Tie as tie
 
-unpacked-requires : tie.Need-unpacked-requires
-unpacked-requires c κs = search needs
-
 pending-length-requires : tie.Need-pending-length-requires
 pending-length-requires c κs = search needs
 
@@ -20,9 +17,9 @@ number-requires c κs = search needs
 
 returns : tie.Need-returns
 returns c =
-    let a = c .before .before .before .before .args in
-    asks numberIs (a .head) (now (a .cells)) (c .before .before .unpacked .ensures) (c .number .ensures) (λ (s : Sender). length (s .pending .unordered) + length (s .pending .ordered)) (c .before .pending-length .ensures)
+    let a = c .before .before .before .args in
+    asks numberIs (a .head) (now (a .cells)) (c .number .ensures) (λ (s : Sender). length (s .pending .unordered) + length (s .pending .ordered)) (c .before .pending-length .ensures)
 
 pub pending-length-spec : {M : Type 1} → statement M
 pending-length-spec =
-    tie.close (tie.spec unpacked-requires pending-length-requires number-requires returns)
+    tie.close (tie.spec pending-length-requires number-requires returns)

@@ -1,4 +1,4 @@
--- The call over a head, of which the answer is flat and the head is packed.
+-- The call over a head, of which the answer is flat.
 use denote.Ref.{now}
 use Rattle.model.specs.Flight.{acknowledge}
 use Rattle.flat_replies.specs.Replies.{numberIs}
@@ -6,9 +6,6 @@ use Rattle.flat.specs.Calls.{goes}
 use borrow.Author.Needs.{needs}
 use Rattle.flat_flight.proofs.acknowledge.Statement.{statement}
 use Rattle.flat_flight.proofs.acknowledge.Tie as tie
-
-unpacked-requires : tie.Need-unpacked-requires
-unpacked-requires c κs = search needs
 
 acknowledge-requires : tie.Need-acknowledge-requires
 acknowledge-requires c κs = search needs
@@ -19,26 +16,21 @@ cast-bytes c = search needs
 number-requires : tie.Need-number-requires
 number-requires c κs = search needs
 
-packed-requires : tie.Need-packed-requires
-packed-requires c κs = search needs
-
 same-length : tie.Need-same-length
 same-length c = search needs
 
 returns : tie.Need-returns
 returns c =
-    let a = c .before .before .before .before .before .before .before .before .before .before .args in
-    let p = c .before .before .before .before .before .before .acknowledge in
-    goes numberIs (a .head) (now (a .cells)) (c .packed .result) (p .last .1 .0) (c .before .before .before .before .before .before .before .before .unpacked .ensures) (c .packed .ensures) (c .before .before .number .ensures) (acknowledge (a .tsn)) (p .ensures)
+    let a = c .before .before .before .before .before .before .before .before .args in
+    let p = c .before .before .before .before .before .acknowledge in
+    goes numberIs (a .head) (now (a .cells)) (p .result .head) (p .last .1 .0) (c .before .number .ensures) (acknowledge (a .tsn)) (p .ensures)
 
 pub acknowledge-spec : {M : Type 1} → statement M
 acknowledge-spec =
     tie.close
     (tie.spec
-    unpacked-requires
     acknowledge-requires
     cast-bytes
     number-requires
-    packed-requires
     same-length
     returns)

@@ -7,9 +7,6 @@ use borrow.Author.Needs.{needs}
 use Rattle.flat_flight.proofs.expired_inflight.Statement.{statement}
 use Rattle.flat_flight.proofs.expired_inflight.Tie as tie
 
-unpacked-requires : tie.Need-unpacked-requires
-unpacked-requires c κs = search needs
-
 expired-inflight-requires : tie.Need-expired-inflight-requires
 expired-inflight-requires c κs = search needs
 
@@ -24,15 +21,14 @@ same-length-2 c = search needs
 
 returns : tie.Need-returns
 returns c =
-    let a = c .before .before .before .before .before .before .before .before .before .args in
+    let a = c .before .before .before .before .before .before .before .before .args in
     let p = c .before .before .before .expired-inflight in
-    (lists (roomIn (now (a .cells))) (now (a .list)) (a .clock) (a .head) (now (a .cells)) (p .last .1 .1 .1 .0) (c .before .before .before .before .before .before .unpacked .ensures) (c .listed .ensures) (p .ensures), (refl, refl))
+    (lists (roomIn (now (a .cells))) (now (a .list)) (a .clock) (a .head) (now (a .cells)) (p .last .1 .1 .1 .0) (c .listed .ensures) (p .ensures), (refl, refl))
 
 pub expired-inflight-spec : {M : Type 1} → statement M
 expired-inflight-spec =
     tie.close
     (tie.spec
-    unpacked-requires
     expired-inflight-requires
     listed-requires
     same-length

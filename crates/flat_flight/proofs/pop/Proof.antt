@@ -1,4 +1,4 @@
--- The call over a head, of which the answer is flat and the head is packed.
+-- The call over a head, of which the answer is flat.
 use denote.Ref.{now}
 use Rattle.model.specs.Flight.{pop}
 use Rattle.flat_replies.specs.Replies.{flatFound}
@@ -7,28 +7,22 @@ use borrow.Author.Needs.{needs}
 use Rattle.flat_flight.proofs.pop.Statement.{statement}
 use Rattle.flat_flight.proofs.pop.Tie as tie
 
-unpacked-requires : tie.Need-unpacked-requires
-unpacked-requires c κs = search needs
-
 pop-requires : tie.Need-pop-requires
 pop-requires c κs = search needs
 
 found-requires : tie.Need-found-requires
 found-requires c κs = search needs
 
-packed-requires : tie.Need-packed-requires
-packed-requires c κs = search needs
-
 same-length : tie.Need-same-length
 same-length c = search needs
 
 returns : tie.Need-returns
 returns c =
-    let a = c .before .before .before .before .before .before .before .args in
-    let p = c .before .before .before .pop in
-    goes (flatFound (a .tsn)) (a .head) (now (a .cells)) (c .packed .result) (now (a .cells)) (c .before .before .before .before .before .unpacked .ensures) (c .packed .ensures) (c .before .before .found .ensures) (pop (a .tsn)) (p .ensures)
+    let a = c .before .before .before .before .before .args in
+    let p = c .before .before .pop in
+    goes (flatFound (a .tsn)) (a .head) (now (a .cells)) (p .result .head) (now (a .cells)) (c .before .found .ensures) (pop (a .tsn)) (p .ensures)
 
 pub pop-spec : {M : Type 1} → statement M
 pop-spec =
     tie.close
-    (tie.spec unpacked-requires pop-requires found-requires packed-requires same-length returns)
+    (tie.spec pop-requires found-requires same-length returns)

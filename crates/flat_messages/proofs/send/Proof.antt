@@ -1,4 +1,4 @@
--- The call over a head, of which the answer is flat and the head is packed.
+-- The call over a head, of which the answer is flat.
 use denote.Ref.{now}
 use Rattle.model.specs.Rings.{send}
 use Rattle.outbound_send.specs.Lean.{leanSend}
@@ -9,28 +9,22 @@ use borrow.Author.Needs.{needs}
 use Rattle.flat_messages.proofs.send.Statement.{statement}
 use Rattle.flat_messages.proofs.send.Tie as tie
 
-unpacked-requires : tie.Need-unpacked-requires
-unpacked-requires c κs = search needs
-
 send-requires : tie.Need-send-requires
 send-requires c κs = search needs
 
 sent-requires : tie.Need-sent-requires
 sent-requires c κs = search needs
 
-packed-requires : tie.Need-packed-requires
-packed-requires c κs = search needs
-
 same-length : tie.Need-same-length
 same-length c = search needs
 
 returns : tie.Need-returns
 returns c =
-    let a = c .before .before .before .before .before .before .before .before .before .args in
-    let p = c .before .before .before .before .before .send in
-    leans flatSent (a .head) (now (a .cells)) (c .packed .result) (p .last .1 .0) (c .before .before .before .before .before .before .before .unpacked .ensures) (c .packed .ensures) (c .before .before .sent .ensures) (roomIn (now (a .cells))) (leanSend (roomIn (now (a .cells))) (a .clock)) (send (roomIn (now (a .cells))) (a .clock)) (p .ensures)
+    let a = c .before .before .before .before .before .before .before .args in
+    let p = c .before .before .before .before .send in
+    leans flatSent (a .head) (now (a .cells)) (p .result .head) (p .last .1 .0) (c .before .sent .ensures) (roomIn (now (a .cells))) (leanSend (roomIn (now (a .cells))) (a .clock)) (send (roomIn (now (a .cells))) (a .clock)) (p .ensures)
 
 pub send-spec : {M : Type 1} → statement M
 send-spec =
     tie.close
-    (tie.spec unpacked-requires send-requires sent-requires packed-requires same-length returns)
+    (tie.spec send-requires sent-requires same-length returns)

@@ -1,4 +1,4 @@
--- The call over a head, of which the answer is flat and the head is packed.
+-- The call over a head, of which the answer is flat.
 use denote.Ref.{now}
 use Rattle.model.specs.Messages.{write}
 use Rattle.sender_head.specs.Whole.{roomIn}
@@ -8,34 +8,26 @@ use borrow.Author.Needs.{needs}
 use Rattle.flat_messages.proofs.write.Statement.{statement}
 use Rattle.flat_messages.proofs.write.Tie as tie
 
-unpacked-requires : tie.Need-unpacked-requires
-unpacked-requires c κs = search needs
-
 write-requires : tie.Need-write-requires
 write-requires c κs = search needs
 
 written-requires : tie.Need-written-requires
 written-requires c κs = search needs
 
-packed-requires : tie.Need-packed-requires
-packed-requires c κs = search needs
-
 same-length : tie.Need-same-length
 same-length c = search needs
 
 returns : tie.Need-returns
 returns c =
-    let a = c .before .before .before .before .before .before .before .before .before .args in
-    let p = c .before .before .before .before .before .write in
-    goes flatWritten (a .head) (now (a .cells)) (c .packed .result) (p .last .1 .0) (c .before .before .before .before .before .before .before .unpacked .ensures) (c .packed .ensures) (c .before .before .written .ensures) (write (roomIn (now (a .cells))) (a .identifier) (a .protocol) (a .offset) (a .length)) (p .ensures)
+    let a = c .before .before .before .before .before .before .before .args in
+    let p = c .before .before .before .before .write in
+    goes flatWritten (a .head) (now (a .cells)) (p .result .head) (p .last .1 .0) (c .before .written .ensures) (write (roomIn (now (a .cells))) (a .identifier) (a .protocol) (a .offset) (a .length)) (p .ensures)
 
 pub write-spec : {M : Type 1} → statement M
 write-spec =
     tie.close
     (tie.spec
-    unpacked-requires
     write-requires
     written-requires
-    packed-requires
     same-length
     returns)

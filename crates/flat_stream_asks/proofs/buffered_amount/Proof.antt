@@ -8,9 +8,6 @@ use borrow.Author.Needs.{needs}
 use Rattle.flat_stream_asks.proofs.buffered_amount.Statement.{statement}
 use Rattle.flat_stream_asks.proofs.buffered_amount.Tie as tie
 
-unpacked-requires : tie.Need-unpacked-requires
-unpacked-requires c κs = search needs
-
 buffered-amount-requires : tie.Need-buffered-amount-requires
 buffered-amount-requires c κs = search needs
 
@@ -19,9 +16,9 @@ amount-requires c κs = search needs
 
 returns : tie.Need-returns
 returns c =
-    let a = c .before .before .before .before .args in
-    asks flatAmount (a .head) (now (a .cells)) (c .before .before .unpacked .ensures) (c .amount .ensures) (λ (s : Sender). amount (find (a .identifier) (s .streams)) (λ t. t .buffered)) (c .before .buffered-amount .ensures)
+    let a = c .before .before .before .args in
+    asks flatAmount (a .head) (now (a .cells)) (c .amount .ensures) (λ (s : Sender). amount (find (a .identifier) (s .streams)) (λ t. t .buffered)) (c .before .buffered-amount .ensures)
 
 pub buffered-amount-spec : {M : Type 1} → statement M
 buffered-amount-spec =
-    tie.close (tie.spec unpacked-requires buffered-amount-requires amount-requires returns)
+    tie.close (tie.spec buffered-amount-requires amount-requires returns)

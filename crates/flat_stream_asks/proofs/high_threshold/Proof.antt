@@ -8,9 +8,6 @@ use borrow.Author.Needs.{needs}
 use Rattle.flat_stream_asks.proofs.high_threshold.Statement.{statement}
 use Rattle.flat_stream_asks.proofs.high_threshold.Tie as tie
 
-unpacked-requires : tie.Need-unpacked-requires
-unpacked-requires c κs = search needs
-
 high-threshold-requires : tie.Need-high-threshold-requires
 high-threshold-requires c κs = search needs
 
@@ -19,9 +16,9 @@ amount-requires c κs = search needs
 
 returns : tie.Need-returns
 returns c =
-    let a = c .before .before .before .before .args in
-    asks flatAmount (a .head) (now (a .cells)) (c .before .before .unpacked .ensures) (c .amount .ensures) (λ (s : Sender). amount (find (a .identifier) (s .streams)) (λ t. t .high)) (c .before .high-threshold .ensures)
+    let a = c .before .before .before .args in
+    asks flatAmount (a .head) (now (a .cells)) (c .amount .ensures) (λ (s : Sender). amount (find (a .identifier) (s .streams)) (λ t. t .high)) (c .before .high-threshold .ensures)
 
 pub high-threshold-spec : {M : Type 1} → statement M
 high-threshold-spec =
-    tie.close (tie.spec unpacked-requires high-threshold-requires amount-requires returns)
+    tie.close (tie.spec high-threshold-requires amount-requires returns)

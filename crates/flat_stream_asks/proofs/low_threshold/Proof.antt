@@ -8,9 +8,6 @@ use borrow.Author.Needs.{needs}
 use Rattle.flat_stream_asks.proofs.low_threshold.Statement.{statement}
 use Rattle.flat_stream_asks.proofs.low_threshold.Tie as tie
 
-unpacked-requires : tie.Need-unpacked-requires
-unpacked-requires c κs = search needs
-
 low-threshold-requires : tie.Need-low-threshold-requires
 low-threshold-requires c κs = search needs
 
@@ -19,9 +16,9 @@ amount-requires c κs = search needs
 
 returns : tie.Need-returns
 returns c =
-    let a = c .before .before .before .before .args in
-    asks flatAmount (a .head) (now (a .cells)) (c .before .before .unpacked .ensures) (c .amount .ensures) (λ (s : Sender). amount (find (a .identifier) (s .streams)) (λ t. t .low)) (c .before .low-threshold .ensures)
+    let a = c .before .before .before .args in
+    asks flatAmount (a .head) (now (a .cells)) (c .amount .ensures) (λ (s : Sender). amount (find (a .identifier) (s .streams)) (λ t. t .low)) (c .before .low-threshold .ensures)
 
 pub low-threshold-spec : {M : Type 1} → statement M
 low-threshold-spec =
-    tie.close (tie.spec unpacked-requires low-threshold-requires amount-requires returns)
+    tie.close (tie.spec low-threshold-requires amount-requires returns)

@@ -9,9 +9,6 @@ use borrow.Author.Needs.{needs}
 use Rattle.flat_stream_asks.proofs.pending_contains_stream.Statement.{statement}
 use Rattle.flat_stream_asks.proofs.pending_contains_stream.Tie as tie
 
-unpacked-requires : tie.Need-unpacked-requires
-unpacked-requires c κs = search needs
-
 pending-contains-stream-requires : tie.Need-pending-contains-stream-requires
 pending-contains-stream-requires c κs = search needs
 
@@ -20,10 +17,10 @@ yes-or-no-requires c κs = search needs
 
 returns : tie.Need-returns
 returns c =
-    let a = c .before .before .before .before .args in
-    asks yesOrNo (a .head) (now (a .cells)) (c .before .before .unpacked .ensures) (c .yes-or-no .ensures) (λ (s : Sender). hasStream (a .identifier) (s .pending .unordered ++ s .pending .ordered)) (c .before .pending-contains-stream .ensures)
+    let a = c .before .before .before .args in
+    asks yesOrNo (a .head) (now (a .cells)) (c .yes-or-no .ensures) (λ (s : Sender). hasStream (a .identifier) (s .pending .unordered ++ s .pending .ordered)) (c .before .pending-contains-stream .ensures)
 
 pub pending-contains-stream-spec : {M : Type 1} → statement M
 pending-contains-stream-spec =
     tie.close
-    (tie.spec unpacked-requires pending-contains-stream-requires yes-or-no-requires returns)
+    (tie.spec pending-contains-stream-requires yes-or-no-requires returns)

@@ -8,9 +8,6 @@ use borrow.Author.Needs.{needs}
 use Rattle.flat_stream_asks.proofs.statistics.Statement.{statement}
 use Rattle.flat_stream_asks.proofs.statistics.Tie as tie
 
-unpacked-requires : tie.Need-unpacked-requires
-unpacked-requires c κs = search needs
-
 statistics-requires : tie.Need-statistics-requires
 statistics-requires c κs = search needs
 
@@ -19,9 +16,9 @@ counted-requires c κs = search needs
 
 returns : tie.Need-returns
 returns c =
-    let a = c .before .before .before .before .args in
-    asks flatCounted (a .head) (now (a .cells)) (c .before .before .unpacked .ensures) (c .counted .ensures) (λ (s : Sender). counts (find (a .identifier) (s .streams))) (c .before .statistics .ensures)
+    let a = c .before .before .before .args in
+    asks flatCounted (a .head) (now (a .cells)) (c .counted .ensures) (λ (s : Sender). counts (find (a .identifier) (s .streams))) (c .before .statistics .ensures)
 
 pub statistics-spec : {M : Type 1} → statement M
 statistics-spec =
-    tie.close (tie.spec unpacked-requires statistics-requires counted-requires returns)
+    tie.close (tie.spec statistics-requires counted-requires returns)

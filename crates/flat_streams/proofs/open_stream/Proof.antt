@@ -1,4 +1,4 @@
--- The call over a head, of which the answer is flat and the head is packed.
+-- The call over a head, of which the answer is flat.
 use denote.Ref.{now}
 use Rattle.model.specs.Streams.{openStream}
 use Rattle.sender_head.specs.Whole.{roomIn}
@@ -8,34 +8,26 @@ use borrow.Author.Needs.{needs}
 use Rattle.flat_streams.proofs.open_stream.Statement.{statement}
 use Rattle.flat_streams.proofs.open_stream.Tie as tie
 
-unpacked-requires : tie.Need-unpacked-requires
-unpacked-requires c κs = search needs
-
 open-stream-requires : tie.Need-open-stream-requires
 open-stream-requires c κs = search needs
 
 done-requires : tie.Need-done-requires
 done-requires c κs = search needs
 
-packed-requires : tie.Need-packed-requires
-packed-requires c κs = search needs
-
 same-length : tie.Need-same-length
 same-length c = search needs
 
 returns : tie.Need-returns
 returns c =
-    let a = c .before .before .before .before .before .before .before .before .before .args in
-    let p = c .before .before .before .before .before .open-stream in
-    goes flatDone (a .head) (now (a .cells)) (c .packed .result) (p .last .1 .0) (c .before .before .before .before .before .before .before .unpacked .ensures) (c .packed .ensures) (c .before .before .done .ensures) (openStream (roomIn (now (a .cells))) (a .identifier) (a .maximum)) (p .ensures)
+    let a = c .before .before .before .before .before .before .before .args in
+    let p = c .before .before .before .before .open-stream in
+    goes flatDone (a .head) (now (a .cells)) (p .result .head) (p .last .1 .0) (c .before .done .ensures) (openStream (roomIn (now (a .cells))) (a .identifier) (a .maximum)) (p .ensures)
 
 pub open-stream-spec : {M : Type 1} → statement M
 open-stream-spec =
     tie.close
     (tie.spec
-    unpacked-requires
     open-stream-requires
     done-requires
-    packed-requires
     same-length
     returns)

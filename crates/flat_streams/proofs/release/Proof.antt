@@ -1,5 +1,5 @@
 -- The call over a head, of which the answer is flat.
-use mathlib.Core.Path.{sym, ap, _∙_}
+use mathlib.Core.Path.{ap, _∙_}
 use lib.IntN.{ℤ}
 use mir.Facts.{toZ-ofZ}
 use denote.Ref.{now}
@@ -10,9 +10,6 @@ use Rattle.flat.specs.Calls.{goes}
 use borrow.Author.Needs.{needs}
 use Rattle.flat_streams.proofs.release.Statement.{statement}
 use Rattle.flat_streams.proofs.release.Tie as tie
-
-unpacked-requires : tie.Need-unpacked-requires
-unpacked-requires c κs = search needs
 
 release-requires : tie.Need-release-requires
 release-requires c κs = search needs
@@ -25,10 +22,10 @@ same-length c = search needs
 
 returns : tie.Need-returns
 returns c =
-    let a = c .before .before .before .before .before .before .before .args in
+    let a = c .before .before .before .before .before .before .args in
     let p = c .before .before .before .release in
-    goes flatReleased (a .head) (now (a .cells)) (a .head) (p .last .1 .0) (c .before .before .before .before .before .unpacked .ensures) (sym (c .before .before .before .before .before .unpacked .ensures)) (c .released .ensures) (release (a .identifier) (a .released)) (p .ensures .0 ∙ ap (λ (z : ℤ). release (a .identifier) z (senderOf (c .before .before .before .before .before .unpacked .result) (now (a .cells)))) (toZ-ofZ (c .before .before .before .before .before .before .before .fits .released)), p .ensures .1)
+    goes flatReleased (a .head) (now (a .cells)) (a .head) (p .last .1 .0) (c .released .ensures) (release (a .identifier) (a .released)) (p .ensures .0 ∙ ap (λ (z : ℤ). release (a .identifier) z (senderOf (a .head) (now (a .cells)))) (toZ-ofZ (c .before .before .before .before .before .before .fits .released)), p .ensures .1)
 
 pub release-spec : {M : Type 1} → statement M
 release-spec =
-    tie.close (tie.spec unpacked-requires release-requires released-requires same-length returns)
+    tie.close (tie.spec release-requires released-requires same-length returns)

@@ -1,5 +1,4 @@
 -- The call over a head, of which the answer is flat.
-use mathlib.Core.Path.{sym}
 use denote.Ref.{now}
 use Rattle.model.specs.Streams.{setHigh}
 use Rattle.flat_replies.specs.Replies.{flatDone}
@@ -7,9 +6,6 @@ use Rattle.flat.specs.Calls.{goes}
 use borrow.Author.Needs.{needs}
 use Rattle.flat_streams.proofs.set_high_threshold.Statement.{statement}
 use Rattle.flat_streams.proofs.set_high_threshold.Tie as tie
-
-unpacked-requires : tie.Need-unpacked-requires
-unpacked-requires c κs = search needs
 
 set-high-threshold-requires : tie.Need-set-high-threshold-requires
 set-high-threshold-requires c κs = search needs
@@ -22,11 +18,11 @@ same-length c = search needs
 
 returns : tie.Need-returns
 returns c =
-    let a = c .before .before .before .before .before .before .before .args in
+    let a = c .before .before .before .before .before .before .args in
     let p = c .before .before .before .set-high-threshold in
-    goes flatDone (a .head) (now (a .cells)) (a .head) (p .last .1 .0) (c .before .before .before .before .before .unpacked .ensures) (sym (c .before .before .before .before .before .unpacked .ensures)) (c .done .ensures) (setHigh (a .identifier) (a .high)) (p .ensures)
+    goes flatDone (a .head) (now (a .cells)) (a .head) (p .last .1 .0) (c .done .ensures) (setHigh (a .identifier) (a .high)) (p .ensures)
 
 pub set-high-threshold-spec : {M : Type 1} → statement M
 set-high-threshold-spec =
     tie.close
-    (tie.spec unpacked-requires set-high-threshold-requires done-requires same-length returns)
+    (tie.spec set-high-threshold-requires done-requires same-length returns)

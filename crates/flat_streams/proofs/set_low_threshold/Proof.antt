@@ -1,5 +1,4 @@
 -- The call over a head, of which the answer is flat.
-use mathlib.Core.Path.{sym}
 use denote.Ref.{now}
 use Rattle.model.specs.Streams.{setLow}
 use Rattle.flat_replies.specs.Replies.{flatDone}
@@ -7,9 +6,6 @@ use Rattle.flat.specs.Calls.{goes}
 use borrow.Author.Needs.{needs}
 use Rattle.flat_streams.proofs.set_low_threshold.Statement.{statement}
 use Rattle.flat_streams.proofs.set_low_threshold.Tie as tie
-
-unpacked-requires : tie.Need-unpacked-requires
-unpacked-requires c κs = search needs
 
 set-low-threshold-requires : tie.Need-set-low-threshold-requires
 set-low-threshold-requires c κs = search needs
@@ -22,11 +18,11 @@ same-length c = search needs
 
 returns : tie.Need-returns
 returns c =
-    let a = c .before .before .before .before .before .before .before .args in
+    let a = c .before .before .before .before .before .before .args in
     let p = c .before .before .before .set-low-threshold in
-    goes flatDone (a .head) (now (a .cells)) (a .head) (p .last .1 .0) (c .before .before .before .before .before .unpacked .ensures) (sym (c .before .before .before .before .before .unpacked .ensures)) (c .done .ensures) (setLow (a .identifier) (a .low)) (p .ensures)
+    goes flatDone (a .head) (now (a .cells)) (a .head) (p .last .1 .0) (c .done .ensures) (setLow (a .identifier) (a .low)) (p .ensures)
 
 pub set-low-threshold-spec : {M : Type 1} → statement M
 set-low-threshold-spec =
     tie.close
-    (tie.spec unpacked-requires set-low-threshold-requires done-requires same-length returns)
+    (tie.spec set-low-threshold-requires done-requires same-length returns)

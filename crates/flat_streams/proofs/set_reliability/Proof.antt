@@ -1,5 +1,4 @@
 -- The call over a head, of which the answer is flat.
-use mathlib.Core.Path.{sym}
 use denote.Ref.{now}
 use Rattle.model.specs.Streams.{setReliability}
 use Rattle.flat_replies.specs.Replies.{flatDone}
@@ -7,9 +6,6 @@ use Rattle.flat.specs.Calls.{goes}
 use borrow.Author.Needs.{needs}
 use Rattle.flat_streams.proofs.set_reliability.Statement.{statement}
 use Rattle.flat_streams.proofs.set_reliability.Tie as tie
-
-unpacked-requires : tie.Need-unpacked-requires
-unpacked-requires c κs = search needs
 
 set-reliability-requires : tie.Need-set-reliability-requires
 set-reliability-requires c κs = search needs
@@ -22,11 +18,11 @@ same-length c = search needs
 
 returns : tie.Need-returns
 returns c =
-    let a = c .before .before .before .before .before .before .before .args in
+    let a = c .before .before .before .before .before .before .args in
     let p = c .before .before .before .set-reliability in
-    goes flatDone (a .head) (now (a .cells)) (a .head) (p .last .1 .0) (c .before .before .before .before .before .unpacked .ensures) (sym (c .before .before .before .before .before .unpacked .ensures)) (c .done .ensures) (setReliability (a .identifier) (a .unordered) (a .kind) (a .value)) (p .ensures)
+    goes flatDone (a .head) (now (a .cells)) (a .head) (p .last .1 .0) (c .done .ensures) (setReliability (a .identifier) (a .unordered) (a .kind) (a .value)) (p .ensures)
 
 pub set-reliability-spec : {M : Type 1} → statement M
 set-reliability-spec =
     tie.close
-    (tie.spec unpacked-requires set-reliability-requires done-requires same-length returns)
+    (tie.spec set-reliability-requires done-requires same-length returns)

@@ -1,8 +1,8 @@
 -- Whether a message is under way, and then the head.
 use mathlib.Core.Path.{sym, _∙_}
 use denote.Ref.{now}
-use borrow.Author.Tests.{not-true, not-false}
 use Rattle.model.specs.Rings.{head}
+use Rattle.pending_queue.specs.Queue.{isSet, is-set, not-set}
 use Rattle.outbound_queue.specs.Outbound.{ringsIn, waiting}
 use Rattle.outbound_overdue.specs.Listings.{named-idle, named-none, named-head}
 use borrow.Author.Needs.{needs}
@@ -13,7 +13,7 @@ returns : tie.Need-returns
 returns c =
     let a = c .before .before .before .args in
     let p = a .q .pending in
-    named-idle (p .«unordered_is_selected») (head (waiting (a .q) (ringsIn (now (a .cells))))) (not-true (p .selected) (c .if1 .taken))
+    named-idle (isSet (p .«unordered_is_selected»)) (head (waiting (a .q) (ringsIn (now (a .cells))))) (not-set (c .if1 .taken))
 
 peek-pending-requires : tie.Need-peek-pending-requires
 peek-pending-requires c κs = search needs
@@ -35,7 +35,7 @@ returns-3 c =
     let a = c .before .before .before .before .before .before .before .before .args in
     let p = a .q .pending in
     let x = c .before .before .front .given in
-    named-head (p .«unordered_is_selected») (head (waiting (a .q) (ringsIn (now (a .cells))))) (x .0 .0) (not-false (p .selected) (c .before .before .before .before .before .if1 .left)) (sym (c .before .before .before .before .peek-pending .ensures) ∙ x .1)
+    named-head (isSet (p .«unordered_is_selected»)) (head (waiting (a .q) (ringsIn (now (a .cells))))) (x .0 .0) (is-set (c .before .before .before .before .before .if1 .left)) (sym (c .before .before .before .before .peek-pending .ensures) ∙ x .1)
 
 pub under-way-spec : {M : Type 1} → statement M
 under-way-spec =

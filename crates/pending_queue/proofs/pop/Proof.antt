@@ -31,6 +31,9 @@ cast-wrapping-sub-u64 c = search needs
 wrapping-sub-u64-requires : tie.Need-wrapping-sub-u64-requires
 wrapping-sub-u64-requires c κs = search needs
 
+flag-requires : tie.Need-flag-requires
+flag-requires c κs = search needs
+
 from-unordered-requires : tie.Need-from-unordered-requires
 from-unordered-requires c κs = search needs
 
@@ -39,24 +42,24 @@ shorter-requires c κs = search needs
 
 returns-2 : tie.Need-returns-2
 returns-2 c =
-    let a = c .before .before .before .before .before .before .before .before .before .before .before .before .before .before .args in
+    let a = c .before .before .before .before .before .before .before .before .before .before .before .before .before .before .before .args in
     let p = pendingIn (a .queue) (now (a .unordered)) (now (a .ordered)) in
-    let chunk = c .before .before .before .before .before .before .before .before .before .front .given .0 .0 in
-    let q = sym (c .before .before .before .before .before .before .before .before .before .before .before .peek .ensures) ∙ c .before .before .before .before .before .before .before .before .before .front .given .1 in
-    let t = popped-one p true chunk (sym (ap laneOf (c .before .if1 .taken)) ∙ c .before .before .from-unordered .ensures) q (c .shorter .ensures) in
-    (t, sym q, counted-less (a .queue) (now (a .unordered)) (now (a .ordered)) (chunk .length) (ap (λ (x : Pending). bytesIn x + chunk .length) t ∙ popped-bytes p chunk q) (search needs) (c .before .before .before .before .before .before .wrapping-sub-u64 .ensures))
+    let chunk = c .before .before .before .before .before .before .before .before .before .before .front .given .0 .0 in
+    let q = sym (c .before .before .before .before .before .before .before .before .before .before .before .before .peek .ensures) ∙ c .before .before .before .before .before .before .before .before .before .before .front .given .1 in
+    let t = popped-one p true chunk (c .before .before .before .before .before .flag .ensures) (sym (ap laneOf (c .before .if1 .taken)) ∙ c .before .before .from-unordered .ensures) q (c .shorter .ensures) in
+    (t, sym q, counted-less (a .queue) (now (a .unordered)) (now (a .ordered)) (chunk .length) (ap (λ (x : Pending). bytesIn x + chunk .length) t ∙ popped-bytes p chunk q) (search needs) (c .before .before .before .before .before .before .before .wrapping-sub-u64 .ensures))
 
 shorter-requires-2 : tie.Need-shorter-requires-2
 shorter-requires-2 c κs = search needs
 
 returns-3 : tie.Need-returns-3
 returns-3 c =
-    let a = c .before .before .before .before .before .before .before .before .before .before .before .before .before .before .args in
+    let a = c .before .before .before .before .before .before .before .before .before .before .before .before .before .before .before .args in
     let p = pendingIn (a .queue) (now (a .unordered)) (now (a .ordered)) in
-    let chunk = c .before .before .before .before .before .before .before .before .before .front .given .0 .0 in
-    let q = sym (c .before .before .before .before .before .before .before .before .before .before .before .peek .ensures) ∙ c .before .before .before .before .before .before .before .before .before .front .given .1 in
-    let t = popped-one p false chunk (sym (ap laneOf (c .before .if1 .left)) ∙ c .before .before .from-unordered .ensures) q (c .shorter2 .ensures) in
-    (t, sym q, counted-less (a .queue) (now (a .unordered)) (now (a .ordered)) (chunk .length) (ap (λ (x : Pending). bytesIn x + chunk .length) t ∙ popped-bytes p chunk q) (search needs) (c .before .before .before .before .before .before .wrapping-sub-u64 .ensures))
+    let chunk = c .before .before .before .before .before .before .before .before .before .before .front .given .0 .0 in
+    let q = sym (c .before .before .before .before .before .before .before .before .before .before .before .before .peek .ensures) ∙ c .before .before .before .before .before .before .before .before .before .before .front .given .1 in
+    let t = popped-one p false chunk (c .before .before .before .before .before .flag .ensures) (sym (ap laneOf (c .before .if1 .left)) ∙ c .before .before .from-unordered .ensures) q (c .shorter2 .ensures) in
+    (t, sym q, counted-less (a .queue) (now (a .unordered)) (now (a .ordered)) (chunk .length) (ap (λ (x : Pending). bytesIn x + chunk .length) t ∙ popped-bytes p chunk q) (search needs) (c .before .before .before .before .before .before .before .wrapping-sub-u64 .ensures))
 
 pub pop-spec : {M : Type 1} → statement M
 pop-spec =
@@ -68,6 +71,7 @@ pop-spec =
     returns
     cast-wrapping-sub-u64
     wrapping-sub-u64-requires
+    flag-requires
     from-unordered-requires
     shorter-requires
     returns-2

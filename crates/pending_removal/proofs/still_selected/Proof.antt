@@ -2,7 +2,7 @@
 use mathlib.Core.Path.{_∙_, sym}
 use denote.Ref.{now}
 use Rattle.model.specs.Rings.{head}
-use Rattle.pending_queue.specs.Queue.{underWayOf, pendingIn}
+use Rattle.pending_queue.specs.Queue.{isSet, underWayOf, pendingIn}
 use Rattle.pending_queue.specs.Runs.{ended-none, ended-one, ended-other}
 use borrow.Author.Needs.{needs}
 use Rattle.pending_removal.proofs.still_selected.Statement.{statement}
@@ -21,21 +21,21 @@ returns : tie.Need-returns
 returns c =
     let a = c .before .before .before .before .before .args in
     let q = a .queue in
-    ended-none (a .number) (underWayOf (q .selected) (q .«unordered_is_selected»)) (head (pendingIn q (now (a .unordered)) (now (a .ordered)))) (sym (c .before .before .peek .ensures) ∙ c .enum-told .given .1)
+    ended-none (a .number) (underWayOf (isSet (q .selected)) (isSet (q .«unordered_is_selected»))) (head (pendingIn q (now (a .unordered)) (now (a .ordered)))) (sym (c .before .before .peek .ensures) ∙ c .enum-told .given .1)
 
 returns-2 : tie.Need-returns-2
 returns-2 c =
     let a = c .before .before .before .before .before .before .before .before .args in
     let q = a .queue in
     let g = c .before .before .before .front .given in
-    ended-one (a .number) (underWayOf (q .selected) (q .«unordered_is_selected»)) (head (pendingIn q (now (a .unordered)) (now (a .ordered)))) (g .0 .0) (sym (c .before .before .before .before .before .peek .ensures) ∙ g .1) (c .if1 .taken)
+    ended-one (a .number) (underWayOf (isSet (q .selected)) (isSet (q .«unordered_is_selected»))) (head (pendingIn q (now (a .unordered)) (now (a .ordered)))) (g .0 .0) (sym (c .before .before .before .before .before .peek .ensures) ∙ g .1) (c .if1 .taken)
 
 returns-3 : tie.Need-returns-3
 returns-3 c =
     let a = c .before .before .before .before .before .before .before .before .args in
     let q = a .queue in
     let g = c .before .before .before .front .given in
-    ended-other (a .number) (underWayOf (q .selected) (q .«unordered_is_selected»)) (head (pendingIn q (now (a .unordered)) (now (a .ordered)))) (g .0 .0) (sym (c .before .before .before .before .before .peek .ensures) ∙ g .1) (c .if1 .left)
+    ended-other (a .number) (underWayOf (isSet (q .selected)) (isSet (q .«unordered_is_selected»))) (head (pendingIn q (now (a .unordered)) (now (a .ordered)))) (g .0 .0) (sym (c .before .before .before .before .before .peek .ensures) ∙ g .1) (c .if1 .left)
 
 pub still-selected-spec : {M : Type 1} → statement M
 still-selected-spec =
