@@ -1,13 +1,16 @@
 // What a script's calls answer, written into a lent buffer: each function puts its text at a place and says where the next stands. A full
 // buffer is written to standard output and begun anew, so that a run of answers costs few calls of the system.
+pub mod sender;
+pub mod state;
+
 use libc::STDOUT_FILENO;
 use limits::Moment;
 use model::Chunk;
 use model::Reliability;
 use model::Stream;
 use rto::RtoManager;
-use timer_entry::Entry;
-use timer_entry::Maximum;
+use timer::Entry;
+use timer::Maximum;
 
 // ---- the buffer
 

@@ -6,7 +6,7 @@ use Rattle.model.specs.Calls as Model
 use Rattle.model.specs.Calls.{step, told}
 use Rattle.outbound_send.specs.Lean.{leanStart, leanSend}
 use Rattle.outbound_abandon.specs.Lean.{leanAbandon}
-use Rattle.outbound_expiry.specs.Lean.{leanExpire, leanExpireTail}
+use Rattle.outbound_abandon.specs.LeanExpiry.{leanExpire, leanExpireTail}
 use Rattle.calls.specs.declared.Query.{Query}
 use Rattle.calls.specs.declared.Call.{Call}
 use Rattle.calls.specs.declared.Answer.{Answer}

@@ -121,11 +121,11 @@ pub fn ask(h: Head, cells: &[u64], query: Query) -> Answer
 {
     match query {
         Query::Get { tsn } => {
-            let found = sender_flight_asks::get(h, cells, tsn);
+            let found = sender_asks::get(h, cells, tsn);
             Answer::ToFind(found)
         }
         Query::IsAbandoned { tsn } => {
-            let yes = sender_flight_asks::is_abandoned(h, cells, tsn);
+            let yes = sender_asks::is_abandoned(h, cells, tsn);
             Answer::YesNo(yes)
         }
         Query::PeekPending => {
@@ -137,7 +137,7 @@ pub fn ask(h: Head, cells: &[u64], query: Query) -> Answer
             Answer::Number(number)
         }
         Query::NextTsn => {
-            let tsn = sender_flight_asks::next_tsn(h, cells);
+            let tsn = sender_asks::next_tsn(h, cells);
             Answer::Number(tsn as u64)
         }
         Query::PendingLength => {
@@ -149,15 +149,15 @@ pub fn ask(h: Head, cells: &[u64], query: Query) -> Answer
             Answer::Number(bytes)
         }
         Query::InflightLength => {
-            let length = sender_flight_asks::inflight_length(h, cells);
+            let length = sender_asks::inflight_length(h, cells);
             Answer::Number(length as u64)
         }
         Query::InflightBytes => {
-            let bytes = sender_flight_asks::inflight_bytes(h);
+            let bytes = sender_asks::inflight_bytes(h);
             Answer::Number(bytes)
         }
         Query::EarliestOutstanding => {
-            let earliest = sender_flight_asks::earliest_outstanding(h, cells);
+            let earliest = sender_asks::earliest_outstanding(h, cells);
             Answer::ToSeek(earliest)
         }
         Query::PendingContainsStream { identifier } => {
@@ -169,19 +169,19 @@ pub fn ask(h: Head, cells: &[u64], query: Query) -> Answer
             Answer::YesNo(yes)
         }
         Query::BufferedAmount { identifier } => {
-            let amount = sender_stream_asks::buffered_amount(h, cells, identifier);
+            let amount = sender_asks::buffered_amount(h, cells, identifier);
             Answer::ToMeasure(amount)
         }
         Query::LowThreshold { identifier } => {
-            let amount = sender_stream_asks::low_threshold(h, cells, identifier);
+            let amount = sender_asks::low_threshold(h, cells, identifier);
             Answer::ToMeasure(amount)
         }
         Query::HighThreshold { identifier } => {
-            let amount = sender_stream_asks::high_threshold(h, cells, identifier);
+            let amount = sender_asks::high_threshold(h, cells, identifier);
             Answer::ToMeasure(amount)
         }
         Query::Statistics { identifier } => {
-            let counted = sender_stream_asks::statistics(h, cells, identifier);
+            let counted = sender_asks::statistics(h, cells, identifier);
             Answer::ToCount(counted)
         }
     }
@@ -268,7 +268,7 @@ pub fn step(h: Head, cells: &mut [u64], call: Call) -> Stepped
             }
         }
         Call::StartLifetimes { clock } => {
-            let made = sender_queue::start_lifetimes(h, cells, clock);
+            let made = sender_calls::start_lifetimes(h, cells, clock);
             let head = made.head;
             let answer = made.answer;
             Stepped {
@@ -277,7 +277,7 @@ pub fn step(h: Head, cells: &mut [u64], call: Call) -> Stepped
             }
         }
         Call::Send { clock } => {
-            let made = sender_queue::send(h, cells, clock);
+            let made = sender_calls::send(h, cells, clock);
             let head = made.head;
             let answer = made.answer;
             Stepped {
@@ -286,7 +286,7 @@ pub fn step(h: Head, cells: &mut [u64], call: Call) -> Stepped
             }
         }
         Call::ExpirePending { clock } => {
-            let made = sender_expiry::expire_pending(h, cells, clock);
+            let made = sender_calls::expire_pending(h, cells, clock);
             let head = made.head;
             let answer = made.answer;
             Stepped {
@@ -295,7 +295,7 @@ pub fn step(h: Head, cells: &mut [u64], call: Call) -> Stepped
             }
         }
         Call::ExpirePendingTail { clock } => {
-            let made = sender_queue::expire_pending_tail(h, cells, clock);
+            let made = sender_calls::expire_pending_tail(h, cells, clock);
             let head = made.head;
             let answer = made.answer;
             Stepped {
@@ -304,7 +304,7 @@ pub fn step(h: Head, cells: &mut [u64], call: Call) -> Stepped
             }
         }
         Call::Abandon { tsn } => {
-            let made = sender_queue::abandon(h, cells, tsn);
+            let made = sender_calls::abandon(h, cells, tsn);
             let head = made.head;
             let answer = made.answer;
             Stepped {
@@ -313,7 +313,7 @@ pub fn step(h: Head, cells: &mut [u64], call: Call) -> Stepped
             }
         }
         Call::Acknowledge { tsn } => {
-            let made = sender_inflight::acknowledge(h, cells, tsn);
+            let made = sender_calls::flight::acknowledge(h, cells, tsn);
             let head = made.head;
             let answer = made.bytes;
             Stepped {
@@ -322,7 +322,7 @@ pub fn step(h: Head, cells: &mut [u64], call: Call) -> Stepped
             }
         }
         Call::Pop { tsn } => {
-            let made = sender_inflight::pop(h, cells, tsn);
+            let made = sender_calls::flight::pop(h, cells, tsn);
             let head = made.head;
             let answer = made.front;
             Stepped {
@@ -331,7 +331,7 @@ pub fn step(h: Head, cells: &mut [u64], call: Call) -> Stepped
             }
         }
         Call::MarkAll => {
-            sender_inflight::mark_all(h, cells);
+            sender_calls::flight::mark_all(h, cells);
             Stepped {
                 head: h,
                 answer: Answer::ToDo(Done::Done),

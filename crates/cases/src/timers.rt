@@ -3,11 +3,11 @@ use limits::Moment;
 use timer::Answer;
 use timer::Changed;
 use timer::Checked;
+use timer::Entry;
 use timer::Expiry;
+use timer::Maximum;
+use timer::Timer;
 use timer::TimerTable;
-use timer_entry::Entry;
-use timer_entry::Maximum;
-use timer_entry::Timer;
 
 fn table() -> TimerTable {
     let made = TimerTable::new(Maximum::Of(8), Maximum::Of(10), 60_000);

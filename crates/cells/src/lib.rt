@@ -1,5 +1,5 @@
 // Slots of eight words (a cache line) in a slice that the caller lends, and small values in a word. Only the crates right above know what
-// a slot's words mean: `chunk_marks`, `chunk_slot` and `chunk_parts` a chunk's, and `stream_slot` a stream's. What a slice holds is there
+// a slot's words mean: `chunk_slot` a chunk's, and `stream_table::slot` a stream's. What a slice holds is there
 // the list `chunks` or `streams` of specs/, for every words at all, and a call reads or changes one element of it. Past the end a load is
 // blank and a store nothing, so no call asks anything of its caller.
 ghost use mathlib.Core.Path.{_≡_};

@@ -10,7 +10,7 @@ use Rattle.limits.specs.declared.Moment.the-variants.{Absent}
 use Rattle.model.specs.declared.Chunk.{Chunk}
 use Rattle.cells.specs.Slots.{roomOf, slotsOf, slots-past, slots-get, word-at}
 use Rattle.cells.specs.Words.{lowOf, highOf, flagsOf, isSet, timeOf, momentOf, moment-back}
-use Rattle.chunk_marks.specs.Marks.{Marks, marksIn, marksWord, marks-back}
+use Rattle.chunk_slot.specs.Marks.{Marks, marksIn, marksWord, marks-back}
 
 -- a word of the small fields, where the flags are two numbers
 pub record Packed (n s k p f r : ℕ) : Type 0 where

@@ -1,17 +1,20 @@
 // A chunk in a slot: its words are, in order, the message number, the deadline, the since, the offset, the payload type with the
 // reliability's value, the length with nsent, and the marks. The eighth is left, and a store leaves it as it is.
+pub mod marks;
+pub mod parts;
+
 use cells::HIGH;
-use chunk_marks::ABANDONED;
-use chunk_marks::ACKED;
-use chunk_marks::BEGINNING;
-use chunk_marks::ENDING;
-use chunk_marks::KIND;
-use chunk_marks::RETRANSMIT;
-use chunk_marks::SENT;
-use chunk_marks::SSN;
-use chunk_marks::TIMED;
-use chunk_marks::UNORDERED;
 use limits::Moment;
+use marks::ABANDONED;
+use marks::ACKED;
+use marks::BEGINNING;
+use marks::ENDING;
+use marks::KIND;
+use marks::RETRANSMIT;
+use marks::SENT;
+use marks::SSN;
+use marks::TIMED;
+use marks::UNORDERED;
 use model::Chunk;
 use model::Message;
 use model::Reliability;

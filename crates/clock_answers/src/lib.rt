@@ -9,9 +9,9 @@ use rto::Set;
 use timer::Answer;
 use timer::Changed;
 use timer::Expiry;
+use timer::Maximum;
+use timer::Timer;
 use timer::TimerTable;
-use timer_entry::Maximum;
-use timer_entry::Timer;
 
 // The timers after a call, and the place behind its answer.
 pub struct Timers {

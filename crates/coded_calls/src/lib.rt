@@ -1,5 +1,8 @@
 // A call in eight words: which one it is, then its arguments. Any words are a call: a number that an argument cannot have is taken modulo
 // what it can. specs/Coded.antt has the table.
+pub mod answers;
+pub mod tape;
+
 use calls::Call;
 use calls::Query;
 ghost use mathlib.Core.Path.{_≡_};

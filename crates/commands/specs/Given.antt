@@ -3,20 +3,20 @@ use Prim.Native.Nat.{ℕ}
 use mathlib.Core.Bool.{Bool}
 use lib.IntN.{ℤ}
 use Rattle.limits.specs.declared.Moment.{Moment}
-use Rattle.timer_entry.specs.declared.Timer.{Timer}
-use Rattle.timer_entry.specs.declared.Found.{Found}
-use Rattle.timer_entry.specs.declared.Maximum.{Maximum}
+use Rattle.timer.specs.declared.Timer.{Timer}
+use Rattle.timer.specs.declared.Found.{Found}
+use Rattle.timer.specs.declared.Maximum.{Maximum}
 use Rattle.words.specs.declared.Token.{Token}
 use Rattle.commands.specs.declared.Command.{Command}
-use Rattle.arguments.specs.Arguments.{longOf, middleOf, shortOf, octetOf, flagOf, timerOf, signedOf, maximumOf, momentOf}
-use Rattle.arguments.specs.declared.Long.{Long}
-use Rattle.arguments.specs.declared.Middle.{Middle}
-use Rattle.arguments.specs.declared.Short.{Short}
-use Rattle.arguments.specs.declared.Octet.{Octet}
-use Rattle.arguments.specs.declared.Flag.{Flag}
-use Rattle.arguments.specs.declared.Signed.{Signed}
-use Rattle.arguments.specs.declared.Most.{Most}
-use Rattle.arguments.specs.declared.Time.{Time}
+use Rattle.words.specs.Arguments.{longOf, middleOf, shortOf, octetOf, flagOf, timerOf, signedOf, maximumOf, momentOf}
+use Rattle.words.specs.declared.arguments.Long.{Long}
+use Rattle.words.specs.declared.arguments.Middle.{Middle}
+use Rattle.words.specs.declared.arguments.Short.{Short}
+use Rattle.words.specs.declared.arguments.Octet.{Octet}
+use Rattle.words.specs.declared.arguments.Flag.{Flag}
+use Rattle.words.specs.declared.arguments.Signed.{Signed}
+use Rattle.words.specs.declared.arguments.Most.{Most}
+use Rattle.words.specs.declared.arguments.Time.{Time}
 
 abbrev pub onLong : Long → (ℕ → Command) → Command
 onLong (Long.Is x) call = call x

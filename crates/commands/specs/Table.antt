@@ -5,8 +5,8 @@ use mathlib.Core.List.{List, [], _∷_}
 use lib.Dec.{ltb, eqb}
 use Rattle.calls.specs.declared.Call.{Call}
 use Rattle.calls.specs.declared.Query.{Query}
-use Rattle.timer_entry.specs.declared.Timer.{Timer}
-use Rattle.timer_entry.specs.Entries.{timerAt}
+use Rattle.timer.specs.declared.Timer.{Timer}
+use Rattle.timer.specs.Entries.{timerAt}
 use Rattle.words.specs.declared.Token.{Token}
 use Rattle.words.specs.Figures.{code}
 use Rattle.words.specs.Tokens.{tokenOf}
@@ -14,7 +14,7 @@ use Rattle.commands.specs.declared.TimerCall.{TimerCall}
 use Rattle.commands.specs.declared.RtoCall.{RtoCall}
 use Rattle.commands.specs.declared.Command.{Command}
 use Rattle.commands.specs.Letters.{a, b, c, d, e, f, g, h, i, k, l, m, n, o, p, r, s, t, u, w, x}
-use Rattle.arguments.specs.Arguments.{codeOf}
+use Rattle.words.specs.Arguments.{codeOf}
 use Rattle.commands.specs.Given.{onTimer, long, middle, short, octet, flag, signed, maximum, moment, timer}
 
 -- the call of the name that this number stands for, or another

@@ -1,20 +1,20 @@
 // Which call of a script a line's words are: the script's table, by the number of the words. `commandOf` of specs/ reads like that table;
 // a name that is not in it, a wrong number of arguments, and an argument out of its form or range are all `Bad`.
-use arguments::Flag;
-use arguments::Long;
-use arguments::Middle;
-use arguments::Most;
-use arguments::Octet;
-use arguments::Short;
-use arguments::Signed;
-use arguments::Time;
 use calls::Call;
 use calls::Query;
 use limits::Moment;
-use timer_entry::Found;
-use timer_entry::Maximum;
-use timer_entry::Timer;
+use timer::Found;
+use timer::Maximum;
+use timer::Timer;
 use words::Token;
+use words::arguments::Flag;
+use words::arguments::Long;
+use words::arguments::Middle;
+use words::arguments::Most;
+use words::arguments::Octet;
+use words::arguments::Short;
+use words::arguments::Signed;
+use words::arguments::Time;
 ghost use mathlib.Core.Path.{_≡_};
 ghost use Rattle.commands.specs.Table.{partsIn, partsOf, timedOf, streamCallOf, tsnCallOf, longCallOf, aloneOf, oneOf};
 ghost use Rattle.commands.specs.Table.{senderOf, openOf, lowOf, highOf, releasedOf, listWithinOf, setTimerOf, timerExpiredOf};
@@ -269,7 +269,7 @@ fn parts_named(letters: u64) -> Command
 fn parts(a: Token) -> Command
     ensures { λ r. ⌜ r ≡ partsOf a ⌝ }
 {
-    parts_named(arguments::code(a))
+    parts_named(words::arguments::code(a))
 }
 
 fn timed(name: u64, timer: Timer) -> Command
@@ -364,7 +364,7 @@ fn one(name: u64, a: Token) -> Command
     if name == STATE {
         return parts(a);
     }
-    let Long::Is(value) = arguments::as_long(a) else {
+    let Long::Is(value) = words::arguments::as_long(a) else {
         return Command::Bad;
     };
     long_call(name, value)
@@ -375,10 +375,10 @@ fn one(name: u64, a: Token) -> Command
 fn sender(a: Token, b: Token) -> Command
     ensures { λ r. ⌜ r ≡ senderOf a b ⌝ }
 {
-    let Middle::Is(tsn) = arguments::as_middle(a) else {
+    let Middle::Is(tsn) = words::arguments::as_middle(a) else {
         return Command::Bad;
     };
-    let Long::Is(number) = arguments::as_long(b) else {
+    let Long::Is(number) = words::arguments::as_long(b) else {
         return Command::Bad;
     };
     Command::Sender {
@@ -390,10 +390,10 @@ fn sender(a: Token, b: Token) -> Command
 fn open(a: Token, b: Token) -> Command
     ensures { λ r. ⌜ r ≡ openOf a b ⌝ }
 {
-    let Short::Is(identifier) = arguments::as_short(a) else {
+    let Short::Is(identifier) = words::arguments::as_short(a) else {
         return Command::Bad;
     };
-    let Middle::Is(maximum) = arguments::as_middle(b) else {
+    let Middle::Is(maximum) = words::arguments::as_middle(b) else {
         return Command::Bad;
     };
     Command::Run(Call::Open {
@@ -405,10 +405,10 @@ fn open(a: Token, b: Token) -> Command
 fn low(a: Token, b: Token) -> Command
     ensures { λ r. ⌜ r ≡ lowOf a b ⌝ }
 {
-    let Short::Is(identifier) = arguments::as_short(a) else {
+    let Short::Is(identifier) = words::arguments::as_short(a) else {
         return Command::Bad;
     };
-    let Long::Is(threshold) = arguments::as_long(b) else {
+    let Long::Is(threshold) = words::arguments::as_long(b) else {
         return Command::Bad;
     };
     Command::Run(Call::SetLow {
@@ -420,10 +420,10 @@ fn low(a: Token, b: Token) -> Command
 fn high(a: Token, b: Token) -> Command
     ensures { λ r. ⌜ r ≡ highOf a b ⌝ }
 {
-    let Short::Is(identifier) = arguments::as_short(a) else {
+    let Short::Is(identifier) = words::arguments::as_short(a) else {
         return Command::Bad;
     };
-    let Long::Is(threshold) = arguments::as_long(b) else {
+    let Long::Is(threshold) = words::arguments::as_long(b) else {
         return Command::Bad;
     };
     Command::Run(Call::SetHigh {
@@ -435,10 +435,10 @@ fn high(a: Token, b: Token) -> Command
 fn released(a: Token, b: Token) -> Command
     ensures { λ r. ⌜ r ≡ releasedOf a b ⌝ }
 {
-    let Short::Is(identifier) = arguments::as_short(a) else {
+    let Short::Is(identifier) = words::arguments::as_short(a) else {
         return Command::Bad;
     };
-    let Signed::Is(released) = arguments::as_signed(b) else {
+    let Signed::Is(released) = words::arguments::as_signed(b) else {
         return Command::Bad;
     };
     Command::Run(Call::Release {
@@ -450,10 +450,10 @@ fn released(a: Token, b: Token) -> Command
 fn expired_within(a: Token, b: Token) -> Command
     ensures { λ r. ⌜ r ≡ listWithinOf a b ⌝ }
 {
-    let Long::Is(clock) = arguments::as_long(a) else {
+    let Long::Is(clock) = words::arguments::as_long(a) else {
         return Command::Bad;
     };
-    let Long::Is(room) = arguments::as_long(b) else {
+    let Long::Is(room) = words::arguments::as_long(b) else {
         return Command::Bad;
     };
     Command::ListWithin {
@@ -465,10 +465,10 @@ fn expired_within(a: Token, b: Token) -> Command
 fn set_timer(a: Token, b: Token) -> Command
     ensures { λ r. ⌜ r ≡ setTimerOf a b ⌝ }
 {
-    let Found::Value(timer) = arguments::as_timer(a) else {
+    let Found::Value(timer) = words::arguments::as_timer(a) else {
         return Command::Bad;
     };
-    let Time::Is(time) = arguments::as_moment(b) else {
+    let Time::Is(time) = words::arguments::as_moment(b) else {
         return Command::Bad;
     };
     Command::Clock(TimerCall::Set {
@@ -480,10 +480,10 @@ fn set_timer(a: Token, b: Token) -> Command
 fn timer_expired(a: Token, b: Token) -> Command
     ensures { λ r. ⌜ r ≡ timerExpiredOf a b ⌝ }
 {
-    let Found::Value(timer) = arguments::as_timer(a) else {
+    let Found::Value(timer) = words::arguments::as_timer(a) else {
         return Command::Bad;
     };
-    let Long::Is(clock) = arguments::as_long(b) else {
+    let Long::Is(clock) = words::arguments::as_long(b) else {
         return Command::Bad;
     };
     Command::Clock(TimerCall::IsExpired {
@@ -495,10 +495,10 @@ fn timer_expired(a: Token, b: Token) -> Command
 fn set_count(a: Token, b: Token) -> Command
     ensures { λ r. ⌜ r ≡ setCountOf a b ⌝ }
 {
-    let Found::Value(timer) = arguments::as_timer(a) else {
+    let Found::Value(timer) = words::arguments::as_timer(a) else {
         return Command::Bad;
     };
-    let Middle::Is(count) = arguments::as_middle(b) else {
+    let Middle::Is(count) = words::arguments::as_middle(b) else {
         return Command::Bad;
     };
     Command::Clock(TimerCall::SetCount {
@@ -510,10 +510,10 @@ fn set_count(a: Token, b: Token) -> Command
 fn set_rto(a: Token, b: Token) -> Command
     ensures { λ r. ⌜ r ≡ setRtoOf a b ⌝ }
 {
-    let Long::Is(rto) = arguments::as_long(a) else {
+    let Long::Is(rto) = words::arguments::as_long(a) else {
         return Command::Bad;
     };
-    let Flag::Is(kept) = arguments::as_flag(b) else {
+    let Flag::Is(kept) = words::arguments::as_flag(b) else {
         return Command::Bad;
     };
     Command::Estimate(RtoCall::Set {
@@ -525,10 +525,10 @@ fn set_rto(a: Token, b: Token) -> Command
 fn set_buffered(a: Token, b: Token) -> Command
     ensures { λ r. ⌜ r ≡ setBufferedOf a b ⌝ }
 {
-    let Short::Is(identifier) = arguments::as_short(a) else {
+    let Short::Is(identifier) = words::arguments::as_short(a) else {
         return Command::Bad;
     };
-    let Middle::Is(amount) = arguments::as_middle(b) else {
+    let Middle::Is(amount) = words::arguments::as_middle(b) else {
         return Command::Bad;
     };
     Command::SetBuffered {
@@ -561,13 +561,13 @@ fn two(name: u64, a: Token, b: Token) -> Command
 fn timers(a: Token, b: Token, c: Token) -> Command
     ensures { λ r. ⌜ r ≡ timersOf a b c ⌝ }
 {
-    let Most::Is(init) = arguments::as_maximum(a) else {
+    let Most::Is(init) = words::arguments::as_maximum(a) else {
         return Command::Bad;
     };
-    let Most::Is(data) = arguments::as_maximum(b) else {
+    let Most::Is(data) = words::arguments::as_maximum(b) else {
         return Command::Bad;
     };
-    let Long::Is(longest) = arguments::as_long(c) else {
+    let Long::Is(longest) = words::arguments::as_long(c) else {
         return Command::Bad;
     };
     Command::Clock(TimerCall::Make {
@@ -580,13 +580,13 @@ fn timers(a: Token, b: Token, c: Token) -> Command
 fn started(a: Token, b: Token, c: Token) -> Command
     ensures { λ r. ⌜ r ≡ startedOf a b c ⌝ }
 {
-    let Found::Value(timer) = arguments::as_timer(a) else {
+    let Found::Value(timer) = words::arguments::as_timer(a) else {
         return Command::Bad;
     };
-    let Long::Is(clock) = arguments::as_long(b) else {
+    let Long::Is(clock) = words::arguments::as_long(b) else {
         return Command::Bad;
     };
-    let Long::Is(interval) = arguments::as_long(c) else {
+    let Long::Is(interval) = words::arguments::as_long(c) else {
         return Command::Bad;
     };
     Command::Clock(TimerCall::Start {
@@ -599,13 +599,13 @@ fn started(a: Token, b: Token, c: Token) -> Command
 fn restarted(a: Token, b: Token, c: Token) -> Command
     ensures { λ r. ⌜ r ≡ restartedOf a b c ⌝ }
 {
-    let Found::Value(timer) = arguments::as_timer(a) else {
+    let Found::Value(timer) = words::arguments::as_timer(a) else {
         return Command::Bad;
     };
-    let Long::Is(clock) = arguments::as_long(b) else {
+    let Long::Is(clock) = words::arguments::as_long(b) else {
         return Command::Bad;
     };
-    let Long::Is(interval) = arguments::as_long(c) else {
+    let Long::Is(interval) = words::arguments::as_long(c) else {
         return Command::Bad;
     };
     Command::Clock(TimerCall::Restart {
@@ -618,13 +618,13 @@ fn restarted(a: Token, b: Token, c: Token) -> Command
 fn new_rto(a: Token, b: Token, c: Token) -> Command
     ensures { λ r. ⌜ r ≡ newRtoOf a b c ⌝ }
 {
-    let Long::Is(initial) = arguments::as_long(a) else {
+    let Long::Is(initial) = words::arguments::as_long(a) else {
         return Command::Bad;
     };
-    let Long::Is(least) = arguments::as_long(b) else {
+    let Long::Is(least) = words::arguments::as_long(b) else {
         return Command::Bad;
     };
-    let Long::Is(most) = arguments::as_long(c) else {
+    let Long::Is(most) = words::arguments::as_long(c) else {
         return Command::Bad;
     };
     Command::Estimate(RtoCall::Make {
@@ -651,16 +651,16 @@ fn three(name: u64, a: Token, b: Token, c: Token) -> Command
 fn reliability(a: Token, b: Token, c: Token, d: Token) -> Command
     ensures { λ r. ⌜ r ≡ reliabilityOf a b c d ⌝ }
 {
-    let Short::Is(identifier) = arguments::as_short(a) else {
+    let Short::Is(identifier) = words::arguments::as_short(a) else {
         return Command::Bad;
     };
-    let Flag::Is(unordered) = arguments::as_flag(b) else {
+    let Flag::Is(unordered) = words::arguments::as_flag(b) else {
         return Command::Bad;
     };
-    let Octet::Is(kind) = arguments::as_octet(c) else {
+    let Octet::Is(kind) = words::arguments::as_octet(c) else {
         return Command::Bad;
     };
-    let Middle::Is(value) = arguments::as_middle(d) else {
+    let Middle::Is(value) = words::arguments::as_middle(d) else {
         return Command::Bad;
     };
     Command::Run(Call::SetReliability {
@@ -674,16 +674,16 @@ fn reliability(a: Token, b: Token, c: Token, d: Token) -> Command
 fn write(a: Token, b: Token, c: Token, d: Token) -> Command
     ensures { λ r. ⌜ r ≡ writeOf a b c d ⌝ }
 {
-    let Short::Is(identifier) = arguments::as_short(a) else {
+    let Short::Is(identifier) = words::arguments::as_short(a) else {
         return Command::Bad;
     };
-    let Middle::Is(protocol) = arguments::as_middle(b) else {
+    let Middle::Is(protocol) = words::arguments::as_middle(b) else {
         return Command::Bad;
     };
-    let Long::Is(offset) = arguments::as_long(c) else {
+    let Long::Is(offset) = words::arguments::as_long(c) else {
         return Command::Bad;
     };
-    let Long::Is(length) = arguments::as_long(d) else {
+    let Long::Is(length) = words::arguments::as_long(d) else {
         return Command::Bad;
     };
     Command::Run(Call::Write {
@@ -708,7 +708,7 @@ fn four(name: u64, a: Token, b: Token, c: Token, d: Token) -> Command
 pub fn called(words: u8, name: Token, a: Token, b: Token, c: Token, d: Token) -> Command
     ensures { λ r. ⌜ r ≡ commandIn words name a b c d ⌝ }
 {
-    let named = arguments::code(name);
+    let named = words::arguments::code(name);
     match words {
         0 => Command::Blank,
         1 => alone(named),

@@ -1,4 +1,6 @@
-// 01's sender as a C caller hears it: structs of numbers alone. `flat_replies` gives the flat reply of each answer.
+// 01's sender as a C caller hears it: structs of numbers alone. `replies` gives the flat reply of each answer.
+pub mod replies;
+
 use sender_head::Head;
 
 // A number, or a yes or no.

@@ -9,113 +9,109 @@ use Rattle.flat.specs.declared.Reply.{Reply}
 use Rattle.flat.specs.declared.Freed.{Freed}
 use Rattle.flat.specs.declared.Fragment.{Fragment}
 use Rattle.flat.specs.declared.Counts.{Counts}
-use Rattle.flat_streams.specs.Says as Streams
-use Rattle.flat_messages.specs.Says as Messages
-use Rattle.flat_flight.specs.Says as Flight
-use Rattle.flat_asks.specs.Says as Asks
-use Rattle.flat_stream_asks.specs.Says as StreamAsks
+use Rattle.flat_calls.specs.Says as Flat
 use Rattle.lent.specs.declared.Sender.{Sender}
 
 -- ---- a fresh sender, and its streams
 
 abbrev pub Init : (tsn number : ℕ) → Sender → Sender → Reply → Type 0
-Init tsn number s s′ y = Streams.Inits tsn number (s .head) (s .cells) (s′ .head) (s′ .cells) y
+Init tsn number s s′ y = Flat.Inits tsn number (s .head) (s .cells) (s′ .head) (s′ .cells) y
 
 abbrev pub Open : (identifier maximum : ℕ) → Sender → Sender → Reply → Type 0
-Open identifier maximum s s′ y = Streams.Opens room01 identifier maximum (s .head) (s .cells) (s′ .head) (s′ .cells) y
+Open identifier maximum s s′ y = Flat.Opens room01 identifier maximum (s .head) (s .cells) (s′ .head) (s′ .cells) y
 
 abbrev pub SetReliability : (identifier : ℕ) → (unordered : Bool) → (kind value : ℕ) → Sender → Sender → Reply → Type 0
-SetReliability identifier unordered kind value s s′ y = Streams.SetsReliability identifier unordered kind value (s .head) (s .cells) (s′ .head) (s′ .cells) y
+SetReliability identifier unordered kind value s s′ y = Flat.SetsReliability identifier unordered kind value (s .head) (s .cells) (s′ .head) (s′ .cells) y
 
 abbrev pub SetLow : (identifier low : ℕ) → Sender → Sender → Reply → Type 0
-SetLow identifier low s s′ y = Streams.SetsLow identifier low (s .head) (s .cells) (s′ .head) (s′ .cells) y
+SetLow identifier low s s′ y = Flat.SetsLow identifier low (s .head) (s .cells) (s′ .head) (s′ .cells) y
 
 abbrev pub SetHigh : (identifier high : ℕ) → Sender → Sender → Reply → Type 0
-SetHigh identifier high s s′ y = Streams.SetsHigh identifier high (s .head) (s .cells) (s′ .head) (s′ .cells) y
+SetHigh identifier high s s′ y = Flat.SetsHigh identifier high (s .head) (s .cells) (s′ .head) (s′ .cells) y
 
 abbrev pub Release : (identifier : ℕ) → (released : ℤ) → Sender → Sender → Reply → Type 0
-Release identifier released s s′ y = Streams.Releases identifier released (s .head) (s .cells) (s′ .head) (s′ .cells) y
+Release identifier released s s′ y = Flat.Releases identifier released (s .head) (s .cells) (s′ .head) (s′ .cells) y
 
 -- ---- messages
 
 abbrev pub Write : (identifier protocol offset length : ℕ) → Sender → Sender → Reply → Type 0
-Write identifier protocol offset length s s′ y = Messages.Writes room01 identifier protocol offset length (s .head) (s .cells) (s′ .head) (s′ .cells) y
+Write identifier protocol offset length s s′ y = Flat.Writes room01 identifier protocol offset length (s .head) (s .cells) (s′ .head) (s′ .cells) y
 
 abbrev pub StartLifetimes : (clock : ℕ) → Sender → Sender → Reply → Type 0
-StartLifetimes clock s s′ y = Messages.Starts room01 clock (s .head) (s .cells) (s′ .head) (s′ .cells) y
+StartLifetimes clock s s′ y = Flat.Starts room01 clock (s .head) (s .cells) (s′ .head) (s′ .cells) y
 
 abbrev pub Send : (clock : ℕ) → Sender → Sender → Fragment → Type 0
-Send clock s s′ y = Messages.Sends room01 clock (s .head) (s .cells) (s′ .head) (s′ .cells) y
+Send clock s s′ y = Flat.Sends room01 clock (s .head) (s .cells) (s′ .head) (s′ .cells) y
 
 abbrev pub ExpirePending : (clock : ℕ) → Sender → Sender → Freed → Type 0
-ExpirePending clock s s′ y = Messages.Expires room01 clock (s .head) (s .cells) (s′ .head) (s′ .cells) y
+ExpirePending clock s s′ y = Flat.Expires room01 clock (s .head) (s .cells) (s′ .head) (s′ .cells) y
 
 abbrev pub ExpirePendingTail : (clock : ℕ) → Sender → Sender → Freed → Type 0
-ExpirePendingTail clock s s′ y = Messages.ExpiresTail room01 clock (s .head) (s .cells) (s′ .head) (s′ .cells) y
+ExpirePendingTail clock s s′ y = Flat.ExpiresTail room01 clock (s .head) (s .cells) (s′ .head) (s′ .cells) y
 
 abbrev pub Abandon : (tsn : ℕ) → Sender → Sender → Freed → Type 0
-Abandon tsn s s′ y = Messages.Abandons room01 tsn (s .head) (s .cells) (s′ .head) (s′ .cells) y
+Abandon tsn s s′ y = Flat.Abandons room01 tsn (s .head) (s .cells) (s′ .head) (s′ .cells) y
 
 -- ---- the flight
 
 abbrev pub Acknowledge : (tsn : ℕ) → Sender → Sender → Reply → Type 0
-Acknowledge tsn s s′ y = Flight.Acknowledges tsn (s .head) (s .cells) (s′ .head) (s′ .cells) y
+Acknowledge tsn s s′ y = Flat.Acknowledges tsn (s .head) (s .cells) (s′ .head) (s′ .cells) y
 
 abbrev pub Pop : (tsn : ℕ) → Sender → Sender → Fragment → Type 0
-Pop tsn s s′ y = Flight.Pops tsn (s .head) (s .cells) (s′ .head) (s′ .cells) y
+Pop tsn s s′ y = Flat.Pops tsn (s .head) (s .cells) (s′ .head) (s′ .cells) y
 
 abbrev pub MarkAll : Sender → Sender → Reply → Type 0
-MarkAll s s′ y = Flight.Marks (s .head) (s .cells) (s′ .head) (s′ .cells) y
+MarkAll s s′ y = Flat.Marks (s .head) (s .cells) (s′ .head) (s′ .cells) y
 
 abbrev pub ExpiredInflight : (list : List ℕ) → (clock : ℕ) → Sender → Sender → (list′ : List ℕ) → Reply → Type 0
-ExpiredInflight list clock s s′ list′ y = Flight.Lists room01 list clock (s .head) (s .cells) (s′ .head) (s′ .cells) list′ y
+ExpiredInflight list clock s s′ list′ y = Flat.Lists room01 list clock (s .head) (s .cells) (s′ .head) (s′ .cells) list′ y
 
 -- ---- questions
 
 abbrev pub Get : (tsn : ℕ) → Sender → Fragment → Type 0
-Get tsn s y = Asks.Gets tsn (s .head) (s .cells) y
+Get tsn s y = Flat.Gets tsn (s .head) (s .cells) y
 
 abbrev pub IsAbandoned : (tsn : ℕ) → Sender → Reply → Type 0
-IsAbandoned tsn s y = Asks.AsksAbandoned tsn (s .head) (s .cells) y
+IsAbandoned tsn s y = Flat.AsksAbandoned tsn (s .head) (s .cells) y
 
 abbrev pub PeekPending : Sender → Fragment → Type 0
-PeekPending s y = Asks.Peeks (s .head) (s .cells) y
+PeekPending s y = Flat.Peeks (s .head) (s .cells) y
 
 abbrev pub NextMessage : Sender → Reply → Type 0
-NextMessage s y = Asks.NextMessage (s .head) (s .cells) y
+NextMessage s y = Flat.NextMessage (s .head) (s .cells) y
 
 abbrev pub NextTsn : Sender → Reply → Type 0
-NextTsn s y = Asks.NextTsn (s .head) (s .cells) y
+NextTsn s y = Flat.NextTsn (s .head) (s .cells) y
 
 abbrev pub PendingLength : Sender → Reply → Type 0
-PendingLength s y = Asks.PendingLength (s .head) (s .cells) y
+PendingLength s y = Flat.PendingLength (s .head) (s .cells) y
 
 abbrev pub PendingBytes : Sender → Reply → Type 0
-PendingBytes s y = Asks.PendingBytes (s .head) (s .cells) y
+PendingBytes s y = Flat.PendingBytes (s .head) (s .cells) y
 
 abbrev pub InflightLength : Sender → Reply → Type 0
-InflightLength s y = Asks.InflightLength (s .head) (s .cells) y
+InflightLength s y = Flat.InflightLength (s .head) (s .cells) y
 
 abbrev pub InflightBytes : Sender → Reply → Type 0
-InflightBytes s y = Asks.InflightBytes (s .head) (s .cells) y
+InflightBytes s y = Flat.InflightBytes (s .head) (s .cells) y
 
 abbrev pub EarliestOutstanding : Sender → Reply → Type 0
-EarliestOutstanding s y = Asks.Earliest (s .head) (s .cells) y
+EarliestOutstanding s y = Flat.Earliest (s .head) (s .cells) y
 
 abbrev pub PendingContainsStream : (identifier : ℕ) → Sender → Reply → Type 0
-PendingContainsStream identifier s y = StreamAsks.PendingContains identifier (s .head) (s .cells) y
+PendingContainsStream identifier s y = Flat.PendingContains identifier (s .head) (s .cells) y
 
 abbrev pub ContainsStream : (identifier : ℕ) → Sender → Reply → Type 0
-ContainsStream identifier s y = StreamAsks.Contains identifier (s .head) (s .cells) y
+ContainsStream identifier s y = Flat.Contains identifier (s .head) (s .cells) y
 
 abbrev pub BufferedAmount : (identifier : ℕ) → Sender → Reply → Type 0
-BufferedAmount identifier s y = StreamAsks.Buffered identifier (s .head) (s .cells) y
+BufferedAmount identifier s y = Flat.Buffered identifier (s .head) (s .cells) y
 
 abbrev pub LowThreshold : (identifier : ℕ) → Sender → Reply → Type 0
-LowThreshold identifier s y = StreamAsks.Low identifier (s .head) (s .cells) y
+LowThreshold identifier s y = Flat.Low identifier (s .head) (s .cells) y
 
 abbrev pub HighThreshold : (identifier : ℕ) → Sender → Reply → Type 0
-HighThreshold identifier s y = StreamAsks.High identifier (s .head) (s .cells) y
+HighThreshold identifier s y = Flat.High identifier (s .head) (s .cells) y
 
 abbrev pub Statistics : (identifier : ℕ) → Sender → Counts → Type 0
-Statistics identifier s y = StreamAsks.Counted identifier (s .head) (s .cells) y
+Statistics identifier s y = Flat.Counted identifier (s .head) (s .cells) y

@@ -24,7 +24,7 @@ pub struct Sender {
 pub extern "C" fn girdermoth_init(s: &mut Sender, tsn: u32, number: u64) -> Reply
     ensures { λ r. ⌜ Init tsn number (now (s .entry)) (now (s .exit)) r ⌝ }
 {
-    let r = flat_streams::init(s.head, &mut s.cells, tsn, number);
+    let r = flat_calls::init(s.head, &mut s.cells, tsn, number);
     s.head = r.head;
     r.reply
 }
@@ -34,7 +34,7 @@ pub extern "C" fn girdermoth_init(s: &mut Sender, tsn: u32, number: u64) -> Repl
 pub extern "C" fn girdermoth_open_stream(s: &mut Sender, identifier: u16, maximum: u32) -> Reply
     ensures { λ r. ⌜ Open identifier maximum (now (s .entry)) (now (s .exit)) r ⌝ }
 {
-    let r = flat_streams::open_stream(s.head, &mut s.cells, identifier, maximum);
+    let r = flat_calls::open_stream(s.head, &mut s.cells, identifier, maximum);
     s.head = r.head;
     r.reply
 }
@@ -50,7 +50,7 @@ pub extern "C" fn girdermoth_set_reliability(
 ) -> Reply
     ensures { λ r. ⌜ SetReliability identifier unordered kind value (now (s .entry)) (now (s .exit)) r ⌝ }
 {
-    let r = flat_streams::set_reliability(s.head, &mut s.cells, identifier, unordered, kind, value);
+    let r = flat_calls::set_reliability(s.head, &mut s.cells, identifier, unordered, kind, value);
     s.head = r.head;
     r.reply
 }
@@ -60,7 +60,7 @@ pub extern "C" fn girdermoth_set_reliability(
 pub extern "C" fn girdermoth_set_low_threshold(s: &mut Sender, identifier: u16, low: u64) -> Reply
     ensures { λ r. ⌜ SetLow identifier low (now (s .entry)) (now (s .exit)) r ⌝ }
 {
-    let r = flat_streams::set_low_threshold(s.head, &mut s.cells, identifier, low);
+    let r = flat_calls::set_low_threshold(s.head, &mut s.cells, identifier, low);
     s.head = r.head;
     r.reply
 }
@@ -70,7 +70,7 @@ pub extern "C" fn girdermoth_set_low_threshold(s: &mut Sender, identifier: u16, 
 pub extern "C" fn girdermoth_set_high_threshold(s: &mut Sender, identifier: u16, high: u64) -> Reply
     ensures { λ r. ⌜ SetHigh identifier high (now (s .entry)) (now (s .exit)) r ⌝ }
 {
-    let r = flat_streams::set_high_threshold(s.head, &mut s.cells, identifier, high);
+    let r = flat_calls::set_high_threshold(s.head, &mut s.cells, identifier, high);
     s.head = r.head;
     r.reply
 }
@@ -80,7 +80,7 @@ pub extern "C" fn girdermoth_set_high_threshold(s: &mut Sender, identifier: u16,
 pub extern "C" fn girdermoth_release(s: &mut Sender, identifier: u16, released: i64) -> Reply
     ensures { λ r. ⌜ Release identifier released (now (s .entry)) (now (s .exit)) r ⌝ }
 {
-    let r = flat_streams::release(s.head, &mut s.cells, identifier, released);
+    let r = flat_calls::release(s.head, &mut s.cells, identifier, released);
     s.head = r.head;
     r.reply
 }
@@ -98,7 +98,7 @@ pub extern "C" fn girdermoth_write(
 ) -> Reply
     ensures { λ r. ⌜ Write identifier protocol offset length (now (s .entry)) (now (s .exit)) r ⌝ }
 {
-    let r = flat_messages::write(s.head, &mut s.cells, identifier, protocol, offset, length);
+    let r = flat_calls::write(s.head, &mut s.cells, identifier, protocol, offset, length);
     s.head = r.head;
     r.reply
 }
@@ -108,7 +108,7 @@ pub extern "C" fn girdermoth_write(
 pub extern "C" fn girdermoth_start_lifetimes(s: &mut Sender, clock: u64) -> Reply
     ensures { λ r. ⌜ StartLifetimes clock (now (s .entry)) (now (s .exit)) r ⌝ }
 {
-    let r = flat_messages::start_lifetimes(s.head, &mut s.cells, clock);
+    let r = flat_calls::start_lifetimes(s.head, &mut s.cells, clock);
     s.head = r.head;
     r.reply
 }
@@ -118,7 +118,7 @@ pub extern "C" fn girdermoth_start_lifetimes(s: &mut Sender, clock: u64) -> Repl
 pub extern "C" fn girdermoth_send(s: &mut Sender, clock: u64) -> Fragment
     ensures { λ r. ⌜ Send clock (now (s .entry)) (now (s .exit)) r ⌝ }
 {
-    let r = flat_messages::send(s.head, &mut s.cells, clock);
+    let r = flat_calls::send(s.head, &mut s.cells, clock);
     s.head = r.head;
     r.reply
 }
@@ -128,7 +128,7 @@ pub extern "C" fn girdermoth_send(s: &mut Sender, clock: u64) -> Fragment
 pub extern "C" fn girdermoth_expire_pending(s: &mut Sender, clock: u64) -> Freed
     ensures { λ r. ⌜ ExpirePending clock (now (s .entry)) (now (s .exit)) r ⌝ }
 {
-    let r = flat_messages::expire_pending(s.head, &mut s.cells, clock);
+    let r = flat_calls::expire_pending(s.head, &mut s.cells, clock);
     s.head = r.head;
     r.reply
 }
@@ -138,7 +138,7 @@ pub extern "C" fn girdermoth_expire_pending(s: &mut Sender, clock: u64) -> Freed
 pub extern "C" fn girdermoth_expire_pending_tail(s: &mut Sender, clock: u64) -> Freed
     ensures { λ r. ⌜ ExpirePendingTail clock (now (s .entry)) (now (s .exit)) r ⌝ }
 {
-    let r = flat_messages::expire_pending_tail(s.head, &mut s.cells, clock);
+    let r = flat_calls::expire_pending_tail(s.head, &mut s.cells, clock);
     s.head = r.head;
     r.reply
 }
@@ -148,7 +148,7 @@ pub extern "C" fn girdermoth_expire_pending_tail(s: &mut Sender, clock: u64) -> 
 pub extern "C" fn girdermoth_abandon(s: &mut Sender, tsn: u32) -> Freed
     ensures { λ r. ⌜ Abandon tsn (now (s .entry)) (now (s .exit)) r ⌝ }
 {
-    let r = flat_messages::abandon(s.head, &mut s.cells, tsn);
+    let r = flat_calls::abandon(s.head, &mut s.cells, tsn);
     s.head = r.head;
     r.reply
 }
@@ -160,7 +160,7 @@ pub extern "C" fn girdermoth_abandon(s: &mut Sender, tsn: u32) -> Freed
 pub extern "C" fn girdermoth_acknowledge(s: &mut Sender, tsn: u32) -> Reply
     ensures { λ r. ⌜ Acknowledge tsn (now (s .entry)) (now (s .exit)) r ⌝ }
 {
-    let r = flat_flight::acknowledge(s.head, &mut s.cells, tsn);
+    let r = flat_calls::acknowledge(s.head, &mut s.cells, tsn);
     s.head = r.head;
     r.reply
 }
@@ -170,7 +170,7 @@ pub extern "C" fn girdermoth_acknowledge(s: &mut Sender, tsn: u32) -> Reply
 pub extern "C" fn girdermoth_pop(s: &mut Sender, tsn: u32) -> Fragment
     ensures { λ r. ⌜ Pop tsn (now (s .entry)) (now (s .exit)) r ⌝ }
 {
-    let r = flat_flight::pop(s.head, &mut s.cells, tsn);
+    let r = flat_calls::pop(s.head, &mut s.cells, tsn);
     s.head = r.head;
     r.reply
 }
@@ -180,7 +180,7 @@ pub extern "C" fn girdermoth_pop(s: &mut Sender, tsn: u32) -> Fragment
 pub extern "C" fn girdermoth_mark_all(s: &mut Sender) -> Reply
     ensures { λ r. ⌜ MarkAll (now (s .entry)) (now (s .exit)) r ⌝ }
 {
-    let r = flat_flight::mark_all(s.head, &mut s.cells);
+    let r = flat_calls::mark_all(s.head, &mut s.cells);
     s.head = r.head;
     r.reply
 }
@@ -190,7 +190,7 @@ pub extern "C" fn girdermoth_mark_all(s: &mut Sender) -> Reply
 pub extern "C" fn girdermoth_expired_inflight(s: &mut Sender, list: &mut [u32], clock: u64) -> Reply
     ensures { λ r. ⌜ ExpiredInflight (now (list .entry)) clock (now (s .entry)) (now (s .exit)) (now (list .exit)) r ⌝ }
 {
-    let r = flat_flight::expired_inflight(s.head, &mut s.cells, list, clock);
+    let r = flat_calls::expired_inflight(s.head, &mut s.cells, list, clock);
     s.head = r.head;
     r.reply
 }
@@ -202,7 +202,7 @@ pub extern "C" fn girdermoth_expired_inflight(s: &mut Sender, list: &mut [u32], 
 pub extern "C" fn girdermoth_get(s: &Sender, tsn: u32) -> Fragment
     ensures { λ r. ⌜ Get tsn (now (s .entry)) r ⌝ }
 {
-    flat_asks::get(s.head, &s.cells, tsn)
+    flat_calls::get(s.head, &s.cells, tsn)
 }
 
 // No for a TSN that is not in flight.
@@ -210,7 +210,7 @@ pub extern "C" fn girdermoth_get(s: &Sender, tsn: u32) -> Fragment
 pub extern "C" fn girdermoth_is_abandoned(s: &Sender, tsn: u32) -> Reply
     ensures { λ r. ⌜ IsAbandoned tsn (now (s .entry)) r ⌝ }
 {
-    flat_asks::is_abandoned(s.head, &s.cells, tsn)
+    flat_calls::is_abandoned(s.head, &s.cells, tsn)
 }
 
 // The chunk that is sent next; it has no TSN yet.
@@ -218,7 +218,7 @@ pub extern "C" fn girdermoth_is_abandoned(s: &Sender, tsn: u32) -> Reply
 pub extern "C" fn girdermoth_peek_pending(s: &Sender) -> Fragment
     ensures { λ r. ⌜ PeekPending (now (s .entry)) r ⌝ }
 {
-    flat_asks::peek_pending(s.head, &s.cells)
+    flat_calls::peek_pending(s.head, &s.cells)
 }
 
 // The number of the next message.
@@ -226,7 +226,7 @@ pub extern "C" fn girdermoth_peek_pending(s: &Sender) -> Fragment
 pub extern "C" fn girdermoth_next_message(s: &Sender) -> Reply
     ensures { λ r. ⌜ NextMessage (now (s .entry)) r ⌝ }
 {
-    flat_asks::next_message(s.head, &s.cells)
+    flat_calls::next_message(s.head, &s.cells)
 }
 
 // The TSN of the next chunk that is sent.
@@ -234,35 +234,35 @@ pub extern "C" fn girdermoth_next_message(s: &Sender) -> Reply
 pub extern "C" fn girdermoth_next_tsn(s: &Sender) -> Reply
     ensures { λ r. ⌜ NextTsn (now (s .entry)) r ⌝ }
 {
-    flat_asks::next_tsn(s.head, &s.cells)
+    flat_calls::next_tsn(s.head, &s.cells)
 }
 
 #[no_mangle]
 pub extern "C" fn girdermoth_pending_length(s: &Sender) -> Reply
     ensures { λ r. ⌜ PendingLength (now (s .entry)) r ⌝ }
 {
-    flat_asks::pending_length(s.head, &s.cells)
+    flat_calls::pending_length(s.head, &s.cells)
 }
 
 #[no_mangle]
 pub extern "C" fn girdermoth_pending_bytes(s: &Sender) -> Reply
     ensures { λ r. ⌜ PendingBytes (now (s .entry)) r ⌝ }
 {
-    flat_asks::pending_bytes(s.head, &s.cells)
+    flat_calls::pending_bytes(s.head, &s.cells)
 }
 
 #[no_mangle]
 pub extern "C" fn girdermoth_inflight_length(s: &Sender) -> Reply
     ensures { λ r. ⌜ InflightLength (now (s .entry)) r ⌝ }
 {
-    flat_asks::inflight_length(s.head, &s.cells)
+    flat_calls::inflight_length(s.head, &s.cells)
 }
 
 #[no_mangle]
 pub extern "C" fn girdermoth_inflight_bytes(s: &Sender) -> Reply
     ensures { λ r. ⌜ InflightBytes (now (s .entry)) r ⌝ }
 {
-    flat_asks::inflight_bytes(s.head, &s.cells)
+    flat_calls::inflight_bytes(s.head, &s.cells)
 }
 
 // The oldest TSN that is neither acknowledged nor abandoned, where `yes` is set.
@@ -270,7 +270,7 @@ pub extern "C" fn girdermoth_inflight_bytes(s: &Sender) -> Reply
 pub extern "C" fn girdermoth_earliest_outstanding(s: &Sender) -> Reply
     ensures { λ r. ⌜ EarliestOutstanding (now (s .entry)) r ⌝ }
 {
-    flat_asks::earliest_outstanding(s.head, &s.cells)
+    flat_calls::earliest_outstanding(s.head, &s.cells)
 }
 
 // Whether a stream has chunks pending.
@@ -278,7 +278,7 @@ pub extern "C" fn girdermoth_earliest_outstanding(s: &Sender) -> Reply
 pub extern "C" fn girdermoth_pending_contains_stream(s: &Sender, identifier: u16) -> Reply
     ensures { λ r. ⌜ PendingContainsStream identifier (now (s .entry)) r ⌝ }
 {
-    flat_stream_asks::pending_contains_stream(s.head, &s.cells, identifier)
+    flat_calls::pending_contains_stream(s.head, &s.cells, identifier)
 }
 
 // Whether a stream has chunks pending or in flight.
@@ -286,7 +286,7 @@ pub extern "C" fn girdermoth_pending_contains_stream(s: &Sender, identifier: u16
 pub extern "C" fn girdermoth_contains_stream(s: &Sender, identifier: u16) -> Reply
     ensures { λ r. ⌜ ContainsStream identifier (now (s .entry)) r ⌝ }
 {
-    flat_stream_asks::contains_stream(s.head, &s.cells, identifier)
+    flat_calls::contains_stream(s.head, &s.cells, identifier)
 }
 
 // Refusal: 3.
@@ -294,7 +294,7 @@ pub extern "C" fn girdermoth_contains_stream(s: &Sender, identifier: u16) -> Rep
 pub extern "C" fn girdermoth_buffered_amount(s: &Sender, identifier: u16) -> Reply
     ensures { λ r. ⌜ BufferedAmount identifier (now (s .entry)) r ⌝ }
 {
-    flat_stream_asks::buffered_amount(s.head, &s.cells, identifier)
+    flat_calls::buffered_amount(s.head, &s.cells, identifier)
 }
 
 // Refusal: 3.
@@ -302,7 +302,7 @@ pub extern "C" fn girdermoth_buffered_amount(s: &Sender, identifier: u16) -> Rep
 pub extern "C" fn girdermoth_low_threshold(s: &Sender, identifier: u16) -> Reply
     ensures { λ r. ⌜ LowThreshold identifier (now (s .entry)) r ⌝ }
 {
-    flat_stream_asks::low_threshold(s.head, &s.cells, identifier)
+    flat_calls::low_threshold(s.head, &s.cells, identifier)
 }
 
 // Refusal: 3.
@@ -310,7 +310,7 @@ pub extern "C" fn girdermoth_low_threshold(s: &Sender, identifier: u16) -> Reply
 pub extern "C" fn girdermoth_high_threshold(s: &Sender, identifier: u16) -> Reply
     ensures { λ r. ⌜ HighThreshold identifier (now (s .entry)) r ⌝ }
 {
-    flat_stream_asks::high_threshold(s.head, &s.cells, identifier)
+    flat_calls::high_threshold(s.head, &s.cells, identifier)
 }
 
 // Messages and bytes sent. Refusal: 3.
@@ -318,5 +318,5 @@ pub extern "C" fn girdermoth_high_threshold(s: &Sender, identifier: u16) -> Repl
 pub extern "C" fn girdermoth_statistics(s: &Sender, identifier: u16) -> Counts
     ensures { λ r. ⌜ Statistics identifier (now (s .entry)) r ⌝ }
 {
-    flat_stream_asks::statistics(s.head, &s.cells, identifier)
+    flat_calls::statistics(s.head, &s.cells, identifier)
 }

@@ -8,11 +8,11 @@ use lib.Dec.{eqb}
 use lib.ListN.{length, getD}
 use Rattle.limits.specs.declared.Moment.{Moment}
 use Rattle.limits.specs.Refusals.{done, beyondLimit}
-use Rattle.timer_entry.specs.declared.Timer.{Timer}
-use Rattle.timer_entry.specs.declared.Found.{Found}
-use Rattle.timer_entry.specs.declared.Maximum.{Maximum}
-use Rattle.timer_entry.specs.declared.Entry.{Entry}
-use Rattle.timer_entry.specs.Entries.{idleEntry}
+use Rattle.timer.specs.declared.Timer.{Timer}
+use Rattle.timer.specs.declared.Found.{Found}
+use Rattle.timer.specs.declared.Maximum.{Maximum}
+use Rattle.timer.specs.declared.Entry.{Entry}
+use Rattle.timer.specs.Entries.{idleEntry}
 use Rattle.timer.specs.declared.TimerTable.{TimerTable}
 use Rattle.timer.specs.declared.Answer.{Answer}
 use Rattle.timer.specs.declared.Expiry.{Expiry}

@@ -1,5 +1,8 @@
 // A message is abandoned: one that was sent in part is cut off behind a terminator. Its leading run in each ring goes: in the states that calls
 // reach that is all of it (`Does`: what the call does of any state at all, and that in a `Good` one this is 01's).
+pub mod expiry;
+pub mod overdue;
+
 use limits::Moment;
 use model::Abandoned;
 use model::Chunk;
@@ -46,8 +49,8 @@ pub struct GivenUp {
 pub fn give_up(q: OutboundQueue, cells: &mut [u64], number: u64) -> GivenUp
     ensures { λ r. ⌜ ((room : Room) (ts : List Stream) → room .flight ≡ ringRoom (now (cells .entry)) → (senderOf ts (r .queue) (now (cells .exit)) ≡ leanlyAbandoned room number (senderOf ts q (now (cells .entry)))) × (r .bytes ≡ leanlyHeld number (senderOf ts q (now (cells .entry))))) × (Counted q (now (cells .entry)) → Counted (r .queue) (now (cells .exit))) ⌝ }
 {
-    let freed = outbound_flight_steps::give_up_entries(q, cells, number);
-    let removed = outbound_steps::remove_pending(freed.queue, cells, number);
+    let freed = outbound_queue::flight_steps::give_up_entries(q, cells, number);
+    let removed = outbound_queue::steps::remove_pending(freed.queue, cells, number);
     let bytes = freed.bytes + removed.bytes;
     let rest = removed.queue;
     let last = removed.last;
@@ -57,7 +60,7 @@ pub fn give_up(q: OutboundQueue, cells: &mut [u64], number: u64) -> GivenUp
             bytes: bytes,
         };
     };
-    let after = outbound_flight_steps::file(rest, cells, terminate(chunk));
+    let after = outbound_queue::flight_steps::file(rest, cells, terminate(chunk));
     GivenUp {
         queue: after,
         bytes: bytes,
@@ -68,7 +71,7 @@ pub fn give_up(q: OutboundQueue, cells: &mut [u64], number: u64) -> GivenUp
 pub fn abandon(q: OutboundQueue, cells: &mut [u64], tsn: u32) -> Abandoning
     ensures { λ r. ⌜ ((room : Room) (ts : List Stream) → room .flight ≡ ringRoom (now (cells .entry)) → Does room (senderOf ts q (now (cells .entry))) (record { after = senderOf ts (r .queue) (now (cells .exit)); says = r .answer }) (leanAbandon room tsn (senderOf ts q (now (cells .entry)))) (abandon tsn (senderOf ts q (now (cells .entry))))) × (Counted q (now (cells .entry)) → Counted (r .queue) (now (cells .exit))) ⌝ }
 {
-    let entry = outbound_asks::get(q, cells, tsn);
+    let entry = outbound_queue::asks::get(q, cells, tsn);
     let Found::One(chunk) = entry else {
         return Abandoning {
             queue: q,

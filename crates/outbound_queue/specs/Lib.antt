@@ -2,3 +2,7 @@
 -- calls of the flight alone.
 pub mod Outbound
 pub mod Flights
+-- Asked: what is asked of the queue, as code finds it out.
+pub mod Asked
+-- Steps: what each step comes to, of a sender that is a variable.
+pub mod Steps

@@ -1,8 +1,11 @@
 // What is pending and what is in flight, together: a record by value, and the two rings and the flight in one lent slice, a third each.
 // `senderOf` of specs/ reads the model's sender from them, for streams that the queue does not know, and each contract is an equation with
-// the model's call, for every record and every cells. What is asked of it stands in `outbound_asks`, writing in `outbound_push`, sending in
-// `outbound_send`, abandonment in `outbound_abandon`, expiry in `outbound_expiry` and `outbound_overdue`, and the steps that these take in
-// `outbound_steps`.
+// the model's call, for every record and every cells. What is asked of it stands in `asks`, and in `steps` and `flight_steps` what
+// the calls of `outbound_send` and `outbound_abandon` are made of.
+pub mod asks;
+pub mod flight_steps;
+pub mod steps;
+
 use model::Found;
 use payload_queue::PayloadQueue;
 use pending_queue::PendingQueue;
@@ -73,7 +76,7 @@ pub fn mark_as_acked(q: OutboundQueue, cells: &mut [u64], tsn: u32) -> Acked
     ensures { λ r. ⌜ ((ts : List Stream) → record { after = senderOf ts (r .queue) (now (cells .exit)); says = r .bytes } ≡ acknowledge tsn (senderOf ts q (now (cells .entry)))) × (Counted q (now (cells .entry)) → Counted (r .queue) (now (cells .exit))) ⌝ }
 {
     let k = cells.len() / 24 * 8;
-    let marked = payload_marks::mark_as_acked(q.inflight, &mut cells[k + k..k + k + k], tsn);
+    let marked = payload_queue::marks::mark_as_acked(q.inflight, &mut cells[k + k..k + k + k], tsn);
     let pending = q.pending;
     let inflight = marked.queue;
     Acked {
@@ -92,5 +95,5 @@ pub fn mark_all_to_retransmit(q: OutboundQueue, cells: &mut [u64])
     ensures { λ _. ⌜ ((ts : List Stream) → senderOf ts q (now (cells .exit)) ≡ markAll (senderOf ts q (now (cells .entry)))) × (Counted q (now (cells .entry)) → Counted q (now (cells .exit))) ⌝ }
 {
     let k = cells.len() / 24 * 8;
-    payload_marks::mark_all_to_retransmit(q.inflight, &mut cells[k + k..k + k + k])
+    payload_queue::marks::mark_all_to_retransmit(q.inflight, &mut cells[k + k..k + k + k])
 }

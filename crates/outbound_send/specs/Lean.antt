@@ -9,7 +9,7 @@ use Rattle.model.specs.declared.Sent.{Sent}
 use Rattle.model.specs.Lists.{if_then_else_}
 use Rattle.model.specs.State.{Sender, Out, same, at}
 use Rattle.model.specs.Rings.{headLane, sending}
-use Rattle.outbound_steps.specs.Steps.{endsStarted}
+use Rattle.outbound_queue.specs.Steps.{endsStarted}
 
 unfoldable pub leanStart : (now : ℕ) → Sender → Out Done
 leanStart now s =

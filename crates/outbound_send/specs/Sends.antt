@@ -28,7 +28,7 @@ use Rattle.payload_queue.specs.Model.{withFlight}
 use Rattle.pending_queue.specs.Fronts.{popped, poppedFrom, popped-none}
 use Rattle.pending_queue.specs.Lifetimes.{unseen, startedEnd, started-rings}
 use Rattle.outbound_queue.specs.Outbound.{Good}
-use Rattle.outbound_steps.specs.Steps.{seenWith, endsStarted}
+use Rattle.outbound_queue.specs.Steps.{seenWith, endsStarted}
 use Rattle.outbound_send.specs.Lean.{leanStart, leanSend}
 
 -- ---- in a Good state the ends of the rings are all that was not seen

@@ -1,6 +1,8 @@
 // Lifetimes start, and the head of what is pending goes to the flight. Lifetimes start at the ends of the rings alone: in the states that
 // calls reach these are all that is not yet seen, so there each call is the model's (`Does`: what it does of any state at all, and that in
 // a `Good` one this is 01's).
+pub mod push;
+
 use limits::Moment;
 use model::Chunk;
 use model::Done;
@@ -36,7 +38,7 @@ pub fn start_timed_messages(q: OutboundQueue, cells: &mut [u64], clock: u64) -> 
             answer: Done::Refused(limits::BEYOND_LIMIT),
         };
     }
-    let after = outbound_steps::start_rings(q, cells, clock);
+    let after = outbound_queue::steps::start_rings(q, cells, clock);
     Started {
         queue: after,
         answer: Done::Done,
@@ -66,10 +68,10 @@ fn stamp(chunk: Chunk, clock: u64) -> Chunk
 fn is_blocked(q: OutboundQueue, cells: &[u64]) -> bool
     ensures { λ r. ⌜ r ≡ blocked (head (waiting q (ringsIn (now (cells .entry))))) (ringRoom (now (cells .entry))) (flying q (ringsIn (now (cells .entry))) .entries) ⌝ }
 {
-    if !outbound_flight_steps::is_full(q, cells) {
+    if !outbound_queue::flight_steps::is_full(q, cells) {
         return false;
     }
-    let front = outbound_asks::peek_pending(q, cells);
+    let front = outbound_queue::asks::peek_pending(q, cells);
     match front {
         Found::One(_) => true,
         Found::Nothing => false,
@@ -92,9 +94,9 @@ pub fn send_next(q: OutboundQueue, cells: &mut [u64], clock: u64) -> Sending
             answer: Sent::Refused(limits::FLIGHT_FULL),
         };
     }
-    let tsn = outbound_asks::next_tsn(q, cells);
-    let started = outbound_steps::start_rings(q, cells, clock);
-    let taken = outbound_steps::take_head(started, cells);
+    let tsn = outbound_queue::asks::next_tsn(q, cells);
+    let started = outbound_queue::steps::start_rings(q, cells, clock);
+    let taken = outbound_queue::steps::take_head(started, cells);
     let rest = taken.queue;
     let front = taken.front;
     let Found::One(chunk) = front else {
@@ -104,7 +106,7 @@ pub fn send_next(q: OutboundQueue, cells: &mut [u64], clock: u64) -> Sending
         };
     };
     let sent = stamp(chunk, clock);
-    let after = outbound_flight_steps::file(rest, cells, sent);
+    let after = outbound_queue::flight_steps::file(rest, cells, sent);
     Sending {
         queue: after,
         answer: Sent::Yielded(tsn, sent),

@@ -14,7 +14,7 @@ use Rattle.model.specs.Rings.{bytes, marked, givenUp}
 use Rattle.model.specs.Flight.{acknowledged, toRetransmit}
 use Rattle.rows.specs.Walks.{keep-total}
 use Rattle.chunk_slot.specs.Chunks.{blankChunk}
-use Rattle.chunk_parts.specs.Changes.{heldOf}
+use Rattle.chunk_slot.specs.Changes.{heldOf}
 use Rattle.ring.specs.declared.Ring.{Ring}
 use Rattle.ring.specs.Held.{held, pushed}
 use Rattle.ring.specs.Sums.{bytes-append, held-bytes}

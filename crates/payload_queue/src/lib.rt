@@ -1,6 +1,10 @@
 // What is in flight: a ring of chunks in lent cells, oldest first, whose TSNs are consecutive modulo 2^32 from `oldest` on. `bytes` is
 // what they hold together. Every value of the numbers means some flight (`flightOf`), so no call asks anything of its caller; that the
 // counter is the sum is `Counted`, which every call keeps.
+pub mod asks;
+pub mod marks;
+pub mod overdue;
+
 use model::Chunk;
 use model::Found;
 use ring::Ring;

@@ -2,7 +2,7 @@
 use mathlib.Core.Path.{_≡_, sym, ap, _∙_}
 use mathlib.Core.Bool.{Bool, true, false}
 use Prim.Native.Nat.{ℕ, _+_, _%_, _^_}
-use Rattle.cutting.specs.declared.Added.{Added}
+use Rattle.pending_queue.specs.declared.cutting.Added.{Added}
 use Rattle.pending_queue.specs.declared.PendingQueue.{PendingQueue}
 
 -- the queue whose ring has them

@@ -1,6 +1,10 @@
 // What is pending: two rings of chunks in lent cells, and which of them the message under way is in. The numbers and flags go by value,
 // and `pendingIn` of specs/ reads the model's `Pending` from them and from the cells, for every value at all. `bytes` is kept as the
 // chunks come and go: where it was their sum (`Counted`), it is so after each call.
+pub mod asks;
+pub mod cutting;
+pub mod removal;
+
 use cutting::Added;
 use model::Found;
 use ring::Ring;
@@ -155,11 +159,11 @@ pub fn start_timed_messages(ring: Ring, cells: &mut [u64], clock: u64, first: u6
 {
     let mut i = ring::count(ring, cells);
     while 0 < i {
-        let number = ring_parts::nth_number(ring, cells, i - 1);
+        let number = ring::parts::nth_number(ring, cells, i - 1);
         if number < first {
             return;
         }
         i -= 1;
-        ring_parts::start_nth(ring, cells, i, clock, first);
+        ring::parts::start_nth(ring, cells, i, clock, first);
     }
 }

@@ -36,14 +36,20 @@ fn chunk(c: Chunk) {
 }
 
 fn state(q: OutboundQueue, cells: &[u64]) {
-    show::number(b"pending ", outbound_asks::pending_len(q, cells) as u64);
-    show::number(b" of bytes ", outbound_asks::pending_bytes(q));
+    show::number(
+        b"pending ",
+        outbound_queue::asks::pending_len(q, cells) as u64,
+    );
+    show::number(b" of bytes ", outbound_queue::asks::pending_bytes(q));
     show::number(
         b", in flight ",
-        outbound_asks::inflight_len(q, cells) as u64,
+        outbound_queue::asks::inflight_len(q, cells) as u64,
     );
-    show::number(b" of bytes ", outbound_asks::inflight_bytes(q));
-    show::number(b", next TSN ", outbound_asks::next_tsn(q, cells) as u64);
+    show::number(b" of bytes ", outbound_queue::asks::inflight_bytes(q));
+    show::number(
+        b", next TSN ",
+        outbound_queue::asks::next_tsn(q, cells) as u64,
+    );
     show::line();
 }
 
@@ -54,7 +60,7 @@ fn write(
     unordered: bool,
     length: u32,
 ) -> OutboundQueue {
-    let pushed = outbound_push::push(q, cells, message(ssn, unordered), 4, 100, length);
+    let pushed = outbound_send::push::push(q, cells, message(ssn, unordered), 4, 100, length);
     show::number(b"push of ", length as u64);
     let answer = pushed.answer;
     match answer {
@@ -113,7 +119,7 @@ fn abandon(q: OutboundQueue, cells: &mut [u64], tsn: u32) -> OutboundQueue {
 
 fn expired(q: OutboundQueue, cells: &[u64], clock: u64) {
     let mut out = [7u32; 3];
-    let listed = outbound_overdue::expired_inflight(q, cells, clock, &mut out);
+    let listed = outbound_abandon::overdue::expired_inflight(q, cells, clock, &mut out);
     show::number(b"expired at ", clock);
     match listed {
         Listed::Count(n) => show::number(b": ", n as u64),

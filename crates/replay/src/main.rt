@@ -8,8 +8,8 @@ use rto::Made;
 use rto::RtoManager;
 use script::Line;
 use sender_head::Head;
+use timer::Maximum;
 use timer::TimerTable;
-use timer_entry::Maximum;
 
 // All that a script's lines change, but the cells; `at` is the place behind the answers so far.
 struct World {
@@ -24,7 +24,7 @@ struct World {
 fn sender_part(world: World, cells: &[u64], out: &mut [u8], wanted: bool, at: usize) -> usize {
     if wanted {
         let head = world.head;
-        return sender_state::whole(head, cells, out, at);
+        return answers::state::whole(head, cells, out, at);
     }
     at
 }
@@ -73,7 +73,7 @@ fn stepped(h: Head, cells: &mut [u64], out: &mut [u8], at: usize, call: Call) ->
     let answer = after.answer;
     Sender {
         head: head,
-        at: sender_answers::answered(out, at, call, answer),
+        at: answers::sender::answered(out, at, call, answer),
     }
 }
 
@@ -81,14 +81,14 @@ fn stepped(h: Head, cells: &mut [u64], out: &mut [u8], at: usize, call: Call) ->
 fn asked(h: Head, cells: &mut [u64], out: &mut [u8], at: usize, command: Command) -> usize {
     match command {
         Command::Bad => answers::bad(out, at),
-        Command::List { clock } => sender_answers::expired_within(h, cells, out, at, clock, 256),
+        Command::List { clock } => answers::sender::expired_within(h, cells, out, at, clock, 256),
         Command::ListWithin { clock, room } => {
-            sender_answers::expired_within(h, cells, out, at, clock, room)
+            answers::sender::expired_within(h, cells, out, at, clock, room)
         }
-        Command::Counts => sender_answers::counts(h, cells, out, at, b"plen="),
-        Command::Stream { identifier } => sender_answers::stream(h, cells, out, at, identifier),
+        Command::Counts => answers::sender::counts(h, cells, out, at, b"plen="),
+        Command::Stream { identifier } => answers::sender::stream(h, cells, out, at, identifier),
         Command::SetBuffered { identifier, amount } => {
-            sender_answers::set_buffered(h, cells, out, at, identifier, amount)
+            answers::sender::set_buffered(h, cells, out, at, identifier, amount)
         }
         _ => at,
     }

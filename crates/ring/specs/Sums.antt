@@ -10,7 +10,7 @@ use Rattle.model.specs.Rings.{bytes}
 use Rattle.rows.specs.View.{lt-or-ge}
 use Rattle.cells.specs.Slots.{roomOf}
 use Rattle.chunk_slot.specs.Chunks.{chunks, blankChunk, chunk-past}
-use Rattle.chunk_parts.specs.Changes.{length-in}
+use Rattle.chunk_slot.specs.Changes.{length-in}
 use Rattle.ring.specs.declared.Ring.{Ring}
 use Rattle.ring.specs.Held.{held, slotOf, held-get, held-limit}
 

@@ -1,6 +1,8 @@
 // A ring of chunks in lent cells. The two numbers go by value, the cells are a slice of words that the caller lends, and its length is
 // the ring's room. What a ring holds is the list `held`, for every value of the two numbers, so no call asks anything of its caller.
 // A caller's proof goes by that list: `count` is its length, `nth` its element, `put` its `set`, `push` its `++`, `shorter` its `drop 1`.
+pub mod parts;
+
 use model::Chunk;
 use model::Found;
 ghost use mathlib.Core.Path.{_≡_};

@@ -1,5 +1,6 @@
 // The round-trip estimator of document 01, "Leaves first" (RFC 4960, section 6.3.1).
 // Every call is total: a record that no call makes, with a NaN or a minimum above the maximum, gets an answer too.
+// What holds over any calls stands in specs/.
 ghost use mathlib.Core.Path.{_≡_};
 ghost use Prim.Native.Nat.{_+_, _≤_, max};
 ghost use Rattle.limits.specs.Limits.{settingMax};

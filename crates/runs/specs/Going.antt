@@ -12,7 +12,7 @@ use Rattle.rows.specs.Parts.{part, part-length}
 use Rattle.cells.specs.Slots.{limit}
 use Rattle.sender_head.specs.Whole.{tableWords, halves, roomIn}
 use Rattle.coded_calls.specs.Coded.{callOf}
-use Rattle.coded_answers.specs.Words.{words}
+use Rattle.coded_calls.specs.Words.{words}
 use Rattle.runs.specs.Runs.{callsFrom, callsIn, allWords, After}
 
 -- From s₀ the calls so far have led to s, and the tape, which was ws₀, is ws. `ks` are still to come, of `all`.

@@ -9,8 +9,8 @@ use Rattle.model.specs.declared.Listed.{Listed}
 use Rattle.model.specs.Rings.{Listing, tsnsAre, refused}
 use Rattle.model.specs.Calls.{toList}
 use Rattle.rows.specs.Parts.{part, part-length}
-use Rattle.outbound_overdue.specs.Lean.{Lent, listedIn}
-use Rattle.coded_answers.specs.Words.{words}
+use Rattle.outbound_abandon.specs.LeanListing.{Lent, listedIn}
+use Rattle.coded_calls.specs.Words.{words}
 
 -- the answer, and the list behind the call
 abbrev pub lent : Listed → List ℕ → Lent

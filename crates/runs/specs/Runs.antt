@@ -9,7 +9,7 @@ use Rattle.model.specs.State.{Sender}
 use Rattle.model.specs.Calls.{Call, Answer, step}
 use Rattle.rows.specs.Parts.{part}
 use Rattle.coded_calls.specs.Coded.{callOf}
-use Rattle.coded_answers.specs.Words.{words}
+use Rattle.coded_calls.specs.Words.{words}
 
 -- n calls from the i-th on, eight words each
 abbrev pub callsFrom : (n i : ℕ) → List ℕ → List Call

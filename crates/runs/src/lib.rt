@@ -16,7 +16,7 @@ ghost use Rattle.demands.specs.Demand3.{Demand3};
 ghost use Rattle.outbound_queue.specs.Outbound.{Good};
 ghost use Rattle.sender_head.specs.Whole.{roomIn, senderOf, Counted};
 ghost use Rattle.coded_calls.specs.Coded.{callOf};
-ghost use Rattle.coded_answers.specs.Words.{words};
+ghost use Rattle.coded_calls.specs.Words.{words};
 ghost use Rattle.runs.specs.Runs.{callsIn, allWords, After};
 
 // The head behind a call, and the place behind its answer.
@@ -36,12 +36,12 @@ fn list_into(
 ) -> usize
     ensures { λ r. ⌜ (Good (roomIn (now (cells .entry))) (senderOf h (now (cells .entry))) → (us : List ℕ) → sets (now (tape .exit)) r us ≡ sets (now (tape .entry)) at (words (toList (expiredInflight clock (length (now (list .entry))) (senderOf h (now (cells .entry))))) ++ us)) ⌝ }
 {
-    let listed = sender_inflight::expired_inflight(h, cells, clock, list);
+    let listed = sender_calls::flight::expired_inflight(h, cells, clock, list);
     match listed {
-        Listed::Refused(n) => tape::put_five(tape, at, 12, 0, n as u64, 0, 0),
+        Listed::Refused(n) => coded_calls::tape::put_five(tape, at, 12, 0, n as u64, 0, 0),
         Listed::Count(n) => {
-            let behind = tape::put_five(tape, at, 12, 1, n as u64, 0, 0);
-            tape::put_list(tape, behind, &list[0..n])
+            let behind = coded_calls::tape::put_five(tape, at, 12, 1, n as u64, 0, 0);
+            coded_calls::tape::put_list(tape, behind, &list[0..n])
         }
     }
 }
@@ -79,7 +79,7 @@ fn one(h: Head, cells: &mut [u64], coded: &[u64], tape: &mut [u64], at: usize) -
             let made = calls::step(h, cells, plain);
             let head = made.head;
             let answer = made.answer;
-            let behind = coded_answers::put_answer(tape, at, answer);
+            let behind = coded_calls::answers::put_answer(tape, at, answer);
             Ran {
                 head: head,
                 at: behind,

@@ -1,6 +1,11 @@
 // 01's sender by value: its numbers and its cells go in and come back beside the answer. Here are the sender, a new one, and the calls on
-// streams; `sender_messages` and `sender_flight` have the rest. Each call lends its own cells to the function on head and cells that holds the
+// streams; `messages`, `flight`, `questions` and `stream_questions` have the rest. Each call lends its own cells to the function on head and cells that holds the
 // logic, and equals 01's call of every sender.
+pub mod flight;
+pub mod messages;
+pub mod questions;
+pub mod stream_questions;
+
 use model::Done;
 use model::Released;
 use sender_head::Head;

@@ -13,14 +13,11 @@ fn state(h: Head, cells: &[u64]) {
     show::number(b"  pending ", sender_asks::pending_length(h, cells) as u64);
     show::number(
         b", in flight ",
-        sender_flight_asks::inflight_length(h, cells) as u64,
+        sender_asks::inflight_length(h, cells) as u64,
     );
-    show::number(
-        b", next TSN ",
-        sender_flight_asks::next_tsn(h, cells) as u64,
-    );
+    show::number(b", next TSN ", sender_asks::next_tsn(h, cells) as u64);
     show::number(b", next message ", sender_asks::next_message(h));
-    let amount = sender_stream_asks::buffered_amount(h, cells, 1);
+    let amount = sender_asks::buffered_amount(h, cells, 1);
     match amount {
         Amount::Is(bytes) => show::number(b", amount ", bytes),
         Amount::Refused(n) => show::number(b", amount: refusal ", n as u64),
@@ -64,7 +61,7 @@ fn write(
 }
 
 fn send(label: &[u8], h: Head, cells: &mut [u64], clock: u64) -> Head {
-    let sending = sender_queue::send(h, cells, clock);
+    let sending = sender_calls::send(h, cells, clock);
     let answer = sending.answer;
     show::text(label);
     match answer {
@@ -96,7 +93,7 @@ fn send_many(h: Head, cells: &mut [u64], times: u32) -> Head {
     let mut head = h;
     let mut i: u32 = 0;
     while i < times {
-        let sending = sender_queue::send(head, cells, 7);
+        let sending = sender_calls::send(head, cells, 7);
         head = sending.head;
         i += 1;
     }
@@ -107,7 +104,7 @@ fn send_many(h: Head, cells: &mut [u64], times: u32) -> Head {
 fn pass(h: Head, cells: &mut [u64]) -> Head {
     let writing = sender_write::write(h, cells, 1, 53, 0, 65_515);
     let sent = send_many(writing.head, cells, 1);
-    let popped = sender_inflight::pop(sent, cells, sent.queue.inflight.oldest);
+    let popped = sender_calls::flight::pop(sent, cells, sent.queue.inflight.oldest);
     popped.head
 }
 
@@ -195,7 +192,7 @@ fn amounts() {
 }
 
 fn abandon(h: Head, cells: &mut [u64], tsn: u32) -> Head {
-    let abandoning = sender_queue::abandon(h, cells, tsn);
+    let abandoning = sender_calls::abandon(h, cells, tsn);
     let answer = abandoning.answer;
     show::number(b"abandon ", tsn as u64);
     match answer {
@@ -211,7 +208,7 @@ fn abandon(h: Head, cells: &mut [u64], tsn: u32) -> Head {
 
 fn expired(label: &[u8], h: Head, cells: &[u64], clock: u64) {
     let mut out = [9u32; 3];
-    let listed = sender_inflight::expired_inflight(h, cells, clock, &mut out);
+    let listed = sender_calls::flight::expired_inflight(h, cells, clock, &mut out);
     show::text(label);
     match listed {
         Listed::Count(n) => show::number(b": ", n as u64),

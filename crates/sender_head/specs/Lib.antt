@@ -2,3 +2,5 @@
 -- as one of the whole sender.
 pub mod Whole
 pub mod Lent
+-- Tables: the table came back from a call, and the queue's words stay.
+pub mod Tables

@@ -1,6 +1,8 @@
 // The sender's head: numbers, by value. All its slots stand in one lent slice: the table of streams in the first 512 words, then the two
 // rings and the flight of its queue. `senderOf` of specs/ reads the model's sender from the two, for every head and every cells; with too
 // few words there is room for fewer streams, or for no chunk.
+pub mod table;
+
 use outbound_queue::OutboundQueue;
 ghost use mathlib.Core.Path.{_≡_};
 ghost use mathlib.Core.List.{List};

@@ -17,8 +17,8 @@ use Rattle.model.specs.Lists.{if_then_else_}
 use Rattle.model.specs.State.{Sender, Out, same, withStreams}
 use Rattle.model.specs.Streams.{find, put, delivering, thresholds, accounted, opened, openNew, openStream, changed, setReliability, setLow, setHigh, releasing, release}
 use Rattle.model.specs.Rings.{ssnBefore, dropSsn}
-use Rattle.stream_amounts.specs.declared.Freed.{Freed}
-use Rattle.stream_amounts.specs.Amounts.{freeing}
+use Rattle.stream.specs.declared.amounts.Freed.{Freed}
+use Rattle.stream.specs.Amounts.{freeing}
 use Rattle.stream_table.specs.declared.Place.the-variants.{At, Nothing}
 use Rattle.stream_table.specs.Tables.{sought, joined, none-found, at-found, update-put, joined-room}
 

@@ -34,7 +34,7 @@ pub fn open_stream(h: Head, cells: &mut [u64], identifier: u16, maximum: u32) ->
             answer: Done::Refused(limits::BAD_BOUNDS),
         };
     }
-    let place = sender_table::seek(h, cells, identifier);
+    let place = sender_head::table::seek(h, cells, identifier);
     let Place::Nothing = place else {
         return Opening {
             head: h,
@@ -42,7 +42,7 @@ pub fn open_stream(h: Head, cells: &mut [u64], identifier: u16, maximum: u32) ->
         };
     };
     let fresh = stream::new(identifier, maximum as u16);
-    let joined = sender_table::join(h, cells, fresh);
+    let joined = sender_head::table::join(h, cells, fresh);
     let head = joined.head;
     if joined.done {
         return Opening {
@@ -69,36 +69,36 @@ pub fn set_reliability(
 ) -> Done
     ensures { λ r. ⌜ (record { after = senderOf h (now (cells .exit)); says = r } ≡ setReliability identifier unordered kind value (senderOf h (now (cells .entry)))) × (Counted h (now (cells .entry)) → Counted h (now (cells .exit))) ⌝ }
 {
-    let place = sender_table::seek(h, cells, identifier);
+    let place = sender_head::table::seek(h, cells, identifier);
     let Place::At(i, old) = place else {
         return Done::Refused(NOT_OPEN);
     };
     let changed = stream::set_reliability_params(old, unordered, kind, value);
-    sender_table::replace(h, cells, i, changed);
+    sender_head::table::replace(h, cells, i, changed);
     Done::Done
 }
 
 pub fn set_low_threshold(h: Head, cells: &mut [u64], identifier: u16, low: u64) -> Done
     ensures { λ r. ⌜ (record { after = senderOf h (now (cells .exit)); says = r } ≡ setLow identifier low (senderOf h (now (cells .entry)))) × (Counted h (now (cells .entry)) → Counted h (now (cells .exit))) ⌝ }
 {
-    let place = sender_table::seek(h, cells, identifier);
+    let place = sender_head::table::seek(h, cells, identifier);
     let Place::At(i, old) = place else {
         return Done::Refused(NOT_OPEN);
     };
     let changed = stream::set_buffered_amount_low_threshold(old, low);
-    sender_table::replace(h, cells, i, changed);
+    sender_head::table::replace(h, cells, i, changed);
     Done::Done
 }
 
 pub fn set_high_threshold(h: Head, cells: &mut [u64], identifier: u16, high: u64) -> Done
     ensures { λ r. ⌜ (record { after = senderOf h (now (cells .exit)); says = r } ≡ setHigh identifier high (senderOf h (now (cells .entry)))) × (Counted h (now (cells .entry)) → Counted h (now (cells .exit))) ⌝ }
 {
-    let place = sender_table::seek(h, cells, identifier);
+    let place = sender_head::table::seek(h, cells, identifier);
     let Place::At(i, old) = place else {
         return Done::Refused(NOT_OPEN);
     };
     let changed = stream::set_buffered_amount_high_threshold(old, high);
-    sender_table::replace(h, cells, i, changed);
+    sender_head::table::replace(h, cells, i, changed);
     Done::Done
 }
 
@@ -108,13 +108,13 @@ pub fn set_high_threshold(h: Head, cells: &mut [u64], identifier: u16, high: u64
 pub fn release(h: Head, cells: &mut [u64], identifier: u16, released: i64) -> Released
     ensures { λ r. ⌜ (record { after = senderOf h (now (cells .exit)); says = r } ≡ release identifier released (senderOf h (now (cells .entry)))) × (Counted h (now (cells .entry)) → Counted h (now (cells .exit))) ⌝ }
 {
-    let place = sender_table::seek(h, cells, identifier);
+    let place = sender_head::table::seek(h, cells, identifier);
     let Place::At(i, old) = place else {
         return Released::Refused(NOT_OPEN);
     };
-    let freed = stream_amounts::on_buffer_released(old, released);
+    let freed = stream::amounts::on_buffer_released(old, released);
     let rest = freed.stream;
-    sender_table::replace(h, cells, i, rest);
+    sender_head::table::replace(h, cells, i, rest);
     Released::Told(freed.low)
 }
 
@@ -122,10 +122,10 @@ pub fn release(h: Head, cells: &mut [u64], identifier: u16, released: i64) -> Re
 pub fn lower_next_ssn(h: Head, cells: &mut [u64], identifier: u16)
     ensures { λ _. ⌜ (senderOf h (now (cells .exit)) ≡ withStreams (dropSsn (find identifier (senderOf h (now (cells .entry)) .streams)) (senderOf h (now (cells .entry)) .streams)) (senderOf h (now (cells .entry)))) × (Counted h (now (cells .entry)) → Counted h (now (cells .exit))) ⌝ }
 {
-    let place = sender_table::seek(h, cells, identifier);
+    let place = sender_head::table::seek(h, cells, identifier);
     let Place::At(i, old) = place else {
         return;
     };
-    let lowered = stream_amounts::lower_ssn(old);
-    sender_table::replace(h, cells, i, lowered)
+    let lowered = stream::amounts::lower_ssn(old);
+    sender_head::table::replace(h, cells, i, lowered)
 }

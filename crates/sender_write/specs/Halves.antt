@@ -12,7 +12,7 @@ use Rattle.rows.specs.Parts.{part, patch}
 use Rattle.stream_table.specs.Tables.{tableOf}
 use Rattle.outbound_queue.specs.declared.OutboundQueue.{OutboundQueue}
 use Rattle.outbound_queue.specs.Outbound as Queue
-use Rattle.outbound_push.specs.Pushes.{pushing}
+use Rattle.outbound_send.specs.Pushes.{pushing}
 use Rattle.sender_head.specs.declared.Head.{Head}
 use Rattle.sender_head.specs.Whole.{tableWords, Halves, halves, roomIn, senderOf, Counted, parts-are, queue-back, sender-by, counted-by}
 

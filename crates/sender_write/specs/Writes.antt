@@ -16,11 +16,11 @@ use Rattle.model.specs.Lists.{if_then_else_}
 use Rattle.model.specs.State.{Sender, Out, same, at, laneOf, withStreams}
 use Rattle.model.specs.Streams.{put}
 use Rattle.model.specs.Messages.{pieces, isUnordered, messageOf, written, accepted, writing, write}
-use Rattle.stream_amounts.specs.declared.Accepted.{Accepted}
-use Rattle.stream_amounts.specs.Amounts.{overflows, rises, accepting, accepting-fits}
+use Rattle.stream.specs.declared.amounts.Accepted.{Accepted}
+use Rattle.stream.specs.Amounts.{overflows, rises, accepting, accepting-fits}
 use Rattle.stream_table.specs.declared.Place.the-variants.{At, Nothing}
 use Rattle.stream_table.specs.Tables.{sought, none-found, at-found, update-put}
-use Rattle.outbound_push.specs.Pushes.{queued, pushing}
+use Rattle.outbound_send.specs.Pushes.{queued, pushing}
 
 module _ (room : Room) (id p o l : ℕ) (s : Sender) where
   -- this is what the write gives back

@@ -6,7 +6,7 @@ use sender_head::Head;
 use stream_table::Place;
 ghost use mathlib.Core.Path.{_≡_};
 ghost use Rattle.model.specs.Messages.{messageOf, write};
-ghost use Rattle.outbound_push.specs.Pushes.{pushing};
+ghost use Rattle.outbound_send.specs.Pushes.{pushing};
 ghost use Rattle.sender_head.specs.Whole.{roomIn, senderOf, Counted};
 
 pub struct Writing {
@@ -33,7 +33,7 @@ fn enqueue(
     let k = sender_head::table_words(cells);
     let n = cells.len();
     let message = stream::message(stream, protocol, h.queue.next_message_id);
-    let pushed = outbound_push::push(
+    let pushed = outbound_send::push::push(
         h.queue,
         &mut cells[k..n],
         message,
@@ -63,7 +63,7 @@ pub fn write(
 ) -> Writing
     ensures { λ r. ⌜ (record { after = senderOf (r .head) (now (cells .exit)); says = r .answer } ≡ write (roomIn (now (cells .entry))) identifier protocol offset length (senderOf h (now (cells .entry)))) × (Counted h (now (cells .entry)) → Counted (r .head) (now (cells .exit))) ⌝ }
 {
-    let found = sender_table::seek(h, cells, identifier);
+    let found = sender_head::table::seek(h, cells, identifier);
     let Place::At(place, stream) = found else {
         return Writing {
             head: h,
@@ -83,7 +83,7 @@ pub fn write(
         };
     }
     let bytes = length as u32;
-    if stream_amounts::would_overflow(stream, bytes) {
+    if stream::amounts::would_overflow(stream, bytes) {
         return Writing {
             head: h,
             answer: Written::Refused(limits::BUFFER_FULL),
@@ -98,9 +98,9 @@ pub fn write(
             answer: Written::Refused(number),
         };
     }
-    let written = stream_amounts::written(stream, protocol, bytes);
+    let written = stream::amounts::written(stream, protocol, bytes);
     let after = written.stream;
-    sender_table::replace(head, cells, place, after);
+    sender_head::table::replace(head, cells, place, after);
     Writing {
         head: head,
         answer: Written::Accepted(written.high),

@@ -1,5 +1,7 @@
 // One stream by value: its settings, and what the fragments of a message share. What a write, a release and an expiry do to it stands in
-// `stream_amounts`, the table of streams in `stream_table`. A message is cut by the caller, who has the ring.
+// `amounts`, the table of streams in `stream_table`. A message is cut by the caller, who has the ring.
+pub mod amounts;
+
 use limits::Moment;
 use model::Message;
 use model::Reliability;

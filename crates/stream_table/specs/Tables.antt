@@ -17,7 +17,7 @@ use Rattle.model.specs.Lists.{if_then_else_}
 use Rattle.model.specs.Streams.{find, put}
 use Rattle.rows.specs.Turns.{read-turn, rest-none}
 use Rattle.cells.specs.Slots.{roomOf, length-slots}
-use Rattle.stream_slot.specs.Streams.{streamIn, streams, blankStream}
+use Rattle.stream_table.specs.Streams.{streamIn, streams, blankStream}
 use Rattle.stream_table.specs.declared.Place.{Place}
 use Rattle.stream_table.specs.declared.Place.the-variants.{At, Nothing}
 

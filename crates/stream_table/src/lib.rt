@@ -1,5 +1,7 @@
 // The open streams, in the order of opening: one to each of the first `count` slots of lent cells (all of them, where that is more). What
 // the slots hold is the list `tableOf`, for every count and every words, so no call asks anything of its caller.
+pub mod slot;
+
 use model::Stream;
 ghost use mathlib.Core.Path.{_≡_};
 ghost use lib.ListN.{length, set};
@@ -34,7 +36,7 @@ pub fn find(count: usize, cells: &[u64], identifier: u16) -> Place
     let n = len(count, cells);
     let mut i = 0;
     while i < n {
-        let stream = stream_slot::load(cells, i);
+        let stream = slot::load(cells, i);
         if stream.identifier == identifier {
             return Place::At(i, stream);
         }
@@ -54,7 +56,7 @@ pub fn open(count: usize, cells: &mut [u64], stream: Stream) -> Opened
         };
     }
     let more = count + 1;
-    stream_slot::store(cells, count, stream);
+    slot::store(cells, count, stream);
     Opened {
         count: more,
         done: true,
@@ -68,5 +70,5 @@ pub fn update(count: usize, cells: &mut [u64], place: usize, stream: Stream)
     if count <= place {
         return;
     }
-    stream_slot::store(cells, place, stream);
+    slot::store(cells, place, stream);
 }

@@ -12,14 +12,14 @@ use lib.Pow.{pow-mono}
 use lib.ListN.{getD, drop, length}
 use lib.Seq.{drop-cons}
 use Rattle.limits.specs.Limits.{clockMax, settingMax}
-use Rattle.timer_entry.specs.declared.Timer.{Timer}
-use Rattle.timer_entry.specs.declared.Timer.the-variants.{T1Init, T1Cookie, T2Shutdown, T3RTX, Reconfig, Ack}
-use Rattle.timer_entry.specs.declared.Found.the-variants.{Value, Nothing}
+use Rattle.timer.specs.declared.Timer.{Timer}
+use Rattle.timer.specs.declared.Timer.the-variants.{T1Init, T1Cookie, T2Shutdown, T3RTX, Reconfig, Ack}
+use Rattle.timer.specs.declared.Found.the-variants.{Value, Nothing}
 use Rattle.limits.specs.declared.Moment.{Moment}
 use Rattle.limits.specs.declared.Moment.the-variants.{Absent, At}
 use Rattle.timer.specs.declared.TimerTable.{TimerTable}
 use Rattle.limits.specs.Moments.{earlier}
-use Rattle.timer_entry.specs.Entries.{place, order, timerAt}
+use Rattle.timer.specs.Entries.{place, order, timerAt}
 use Rattle.timer.specs.Timers.{entryOf, backoff, waitOf}
 use Rattle.timer.specs.Calls.{getOf, soonest, startable}
 

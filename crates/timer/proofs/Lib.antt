@@ -1,2 +1,3 @@
 -- What the proofs of `timer` share.
 pub mod Laws
+pub mod Claims

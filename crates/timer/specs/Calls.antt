@@ -5,13 +5,13 @@ use mathlib.Core.Bool.{Bool, true, false, cond, not, _&&_}
 use lib.Dec.{leb}
 use Rattle.limits.specs.Limits.{clockMax, settingMax, countMax}
 use Rattle.limits.specs.Refusals.{beyondLimit, countFull}
-use Rattle.timer_entry.specs.declared.Timer.{Timer}
-use Rattle.timer_entry.specs.declared.Timer.the-variants.{T1Init, T1Cookie, T2Shutdown, T3RTX, Reconfig, Ack}
+use Rattle.timer.specs.declared.Timer.{Timer}
+use Rattle.timer.specs.declared.Timer.the-variants.{T1Init, T1Cookie, T2Shutdown, T3RTX, Reconfig, Ack}
 use Rattle.limits.specs.declared.Moment.{Moment}
 use Rattle.limits.specs.declared.Moment.the-variants.{Absent, At}
-use Rattle.timer_entry.specs.declared.Maximum.{Maximum}
-use Rattle.timer_entry.specs.declared.Maximum.the-variants.{Unlimited}
-use Rattle.timer_entry.specs.declared.Entry.{Entry}
+use Rattle.timer.specs.declared.Maximum.{Maximum}
+use Rattle.timer.specs.declared.Maximum.the-variants.{Unlimited}
+use Rattle.timer.specs.declared.Entry.{Entry}
 use Rattle.timer.specs.declared.TimerTable.{TimerTable}
 use Rattle.timer.specs.declared.Answer.{Answer}
 use Rattle.timer.specs.declared.Answer.the-variants.{Done, Refused}
@@ -20,7 +20,7 @@ use Rattle.timer.specs.declared.Expiry.{Expiry}
 use Rattle.timer.specs.declared.Expiry.the-variants.{Told, Refused as Denied}
 use Rattle.timer.specs.declared.Checked.{Checked}
 use Rattle.limits.specs.Moments.{passed, ahead, beyond, earlier}
-use Rattle.timer_entry.specs.Entries.{order, idleEntry, failsAt}
+use Rattle.timer.specs.Entries.{order, idleEntry, failsAt}
 use Rattle.timer.specs.Timers.{entryOf, withDeadline, withCount, withSuppression, withEntry, waitOf}
 
 -- 01's number for an answer: 0 for done, a refusal its own

@@ -4,11 +4,11 @@ use mathlib.Core.Bool.{Bool, cond}
 use lib.Dec.{ltb, eqb}
 use lib.ListN.{getD, set}
 use Rattle.limits.specs.declared.Moment.{Moment}
-use Rattle.timer_entry.specs.declared.Timer.{Timer}
-use Rattle.timer_entry.specs.declared.Timer.the-variants.{Ack}
-use Rattle.timer_entry.specs.declared.Maximum.the-variants.{Unlimited}
-use Rattle.timer_entry.specs.declared.Entry.{Entry}
-use Rattle.timer_entry.specs.Entries.{place, idleEntry}
+use Rattle.timer.specs.declared.Timer.{Timer}
+use Rattle.timer.specs.declared.Timer.the-variants.{Ack}
+use Rattle.timer.specs.declared.Maximum.the-variants.{Unlimited}
+use Rattle.timer.specs.declared.Entry.{Entry}
+use Rattle.timer.specs.Entries.{place, idleEntry}
 use Rattle.timer.specs.declared.TimerTable.{TimerTable}
 
 -- the entry of a timer

@@ -55,7 +55,7 @@ fn open(s: Sender, identifier: u16, unordered: bool) -> Sender {
 }
 
 fn write(s: Sender, identifier: u16, length: u64) -> Sender {
-    let writing = sender_messages::write(s, identifier, 53, 0, length);
+    let writing = sender::messages::write(s, identifier, 53, 0, length);
     let answer = writing.answer;
     match answer {
         Written::Accepted(_) => {}
@@ -65,7 +65,7 @@ fn write(s: Sender, identifier: u16, length: u64) -> Sender {
 }
 
 fn send(s: Sender) -> Sender {
-    let sending = sender_messages::send(s, 0);
+    let sending = sender::messages::send(s, 0);
     let answer = sending.answer;
     let Sent::Yielded(tsn, chunk) = answer else {
         if let Sent::Refused(number) = answer {
@@ -90,12 +90,12 @@ fn released(answer: Abandoned) {
 
 // The terminator takes the TSN that was next.
 fn abandon(s: Sender, tsn: u32) -> Sender {
-    let next = sender_questions::next_tsn(s);
-    let abandoning = sender_messages::abandon(s, tsn);
+    let next = sender::questions::next_tsn(s);
+    let abandoning = sender::messages::abandon(s, tsn);
     let answer = abandoning.answer;
     released(answer);
     let after = abandoning.sender;
-    let found = sender_questions::get(after, next);
+    let found = sender::questions::get(after, next);
     let Found::One(terminator) = found else {
         show::text(b"no terminator\n");
         return after;

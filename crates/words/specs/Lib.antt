@@ -2,3 +2,5 @@
 pub mod Figures
 pub mod Tokens
 pub mod Claims
+-- The arguments of a script's calls.
+pub mod Arguments

@@ -1,5 +1,7 @@
 // A word of a script, read byte by byte: a name, a number or a dash. `tokenOf` of specs/ says what a whole word is, and its law that
 // beginning with the first byte and growing by the others gives just that.
+pub mod arguments;
+
 ghost use mathlib.Core.Path.{_≡_};
 ghost use Rattle.words.specs.Tokens.{beginOf, growOf, letteredOf, appendedOf, heldAs};
 

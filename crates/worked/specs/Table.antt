@@ -9,12 +9,12 @@ use lib.Ieee.{Float, binary64, div}
 use Rattle.limits.specs.Limits.{room01}
 use Rattle.limits.specs.declared.Moment.{Moment}
 use Rattle.limits.specs.declared.Moment.the-variants.{Absent, At}
-use Rattle.timer_entry.specs.declared.Timer.the-variants.{T3RTX}
-use Rattle.timer_entry.specs.declared.Maximum.the-variants.{Unlimited}
+use Rattle.timer.specs.declared.Timer.the-variants.{T3RTX}
+use Rattle.timer.specs.declared.Maximum.the-variants.{Unlimited}
 use Rattle.timer.specs.Calls.{getOf, newOf}
-use Rattle.timer_claims.specs.Claims as Timers
+use Rattle.timer.specs.Claims as Timers
 use Rattle.rto.specs.Rto.{f64, fresh as estimator}
-use Rattle.rto_claims.specs.Calls as Rto
+use Rattle.rto.specs.Calls as Rto
 use Rattle.model.specs.declared.Released.{Released}
 use Rattle.model.specs.State.{Sender, fresh, withStreams}
 use Rattle.model.specs.Streams.{opened, accounted, release}

@@ -1,5 +1,5 @@
 -- Field by field; the two moments are what `moment_of` ensures.
-use Rattle.chunk_marks.specs.Marks.{marksIn}
+use Rattle.chunk_slot.specs.Marks.{marksIn}
 use Rattle.chunk_slot.specs.Chunks.{chunkFrom}
 use borrow.Author.Needs.{needs}
 use Rattle.chunk_slot.proofs.unpacked.Statement.{statement}

@@ -1,4 +1,4 @@
--- `lent::girdermoth_expire_pending_tail` meets its contract, by `flat_messages::expire_pending_tail`'s and walkkit's `on-head-1`.
+-- `lent::girdermoth_expire_pending_tail` meets its contract, by `flat_calls::expire_pending_tail`'s and walkkit's `on-head-1`.
 use mathlib.Core.Path.{subst}
 use mir.Syntax.{w64}
 use contract.Running.{givenOf, tables, tablesOf}
@@ -10,17 +10,17 @@ use Rattle.sender_head.specs.Whole.{roomIn}
 use Rattle.sender.specs.Sizes.{sizes}
 use Rattle.walkkit.proofs.Lent.{of-uint}
 use Rattle.walkkit.proofs.OnHead.{on-head-1}
-use Rattle.flat_messages.specs.Says.{ExpiresTail}
+use Rattle.flat_calls.specs.Says.{ExpiresTail}
 use Rattle.lent.specs.Says.{ExpirePendingTail}
 use Rattle.lent.proofs.Shapes.{head, freed, state, said-freed}
 use Rattle.sender_head.proofs.Head as D
 use Rattle.flat.proofs.Freed as N
 use Rattle.flat.proofs.SaidFreed as S
 use Rattle.lent.proofs.Sender as R
-use Rattle.flat_messages.proofs.expire_pending_tail as g
-use Rattle.flat_messages.proofs.expire_pending_tail.Symbol as g-def
-use Rattle.flat_messages.proofs.expire_pending_tail.Symbol.{name as #g}
-use Rattle.flat_messages.proofs.expire_pending_tail.Met as g-thm
+use Rattle.flat_calls.proofs.expire_pending_tail as g
+use Rattle.flat_calls.proofs.expire_pending_tail.Symbol as g-def
+use Rattle.flat_calls.proofs.expire_pending_tail.Symbol.{name as #g}
+use Rattle.flat_calls.proofs.expire_pending_tail.Met as g-thm
 use Rattle.lent.proofs.girdermoth_expire_pending_tail.Key.{name as #f}
 use Rattle.lent.proofs.girdermoth_expire_pending_tail as f
 use Rattle.lent.proofs.girdermoth_expire_pending_tail.Statement as stated
@@ -36,4 +36,4 @@ girdermoth-expire-pending-tail-spec 𝓤 H 𝓜 𝓖 𝓡 =
     (λ d ws x₁ ws′ r. ExpiresTail (roomIn ws) x₁ d ws (r .head) ws′ (r .reply))
     (λ h x₁ h′ y. ExpirePendingTail x₁ h h′ y)
     (λ h x₁ ws r e e′ j. subst (λ (room : Room). ExpiresTail room x₁ (h .head) (h .cells) (r .head) ws (r .reply)) (sizes (h .cells) e) j) #g (tablesOf 𝓤 H 𝓜 (tables 𝓤 H 𝓜 𝓡 code.env))
-    (cited 𝓤 H (tripleOf 𝓤 H (𝓖 .A) g.signature (g.spec 𝓤 H (𝓖 .A) (𝓜 .mem) (𝓡 .run))) 𝓜 𝓡 code.env #g g-def.routine code.calls-flat-messages·expire-pending-tail (g-thm.met 𝓤 H 𝓜 𝓖 𝓡)))
+    (cited 𝓤 H (tripleOf 𝓤 H (𝓖 .A) g.signature (g.spec 𝓤 H (𝓖 .A) (𝓜 .mem) (𝓡 .run))) 𝓜 𝓡 code.env #g g-def.routine code.calls-flat-calls·expire-pending-tail (g-thm.met 𝓤 H 𝓜 𝓖 𝓡)))

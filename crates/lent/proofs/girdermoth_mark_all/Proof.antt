@@ -1,19 +1,19 @@
--- `lent::girdermoth_mark_all` meets its contract, by `flat_flight::mark_all`'s and walkkit's `on-head-0`.
+-- `lent::girdermoth_mark_all` meets its contract, by `flat_calls::mark_all`'s and walkkit's `on-head-0`.
 use contract.Running.{givenOf, tables, tablesOf}
 use denote.Triple.Spec.{tripleOf}
 use denote.Triple.Table.{entered, cited}
 use Rattle.walkkit.proofs.OnHead.{on-head-0}
-use Rattle.flat_flight.specs.Says.{Marks}
+use Rattle.flat_calls.specs.Says.{Marks}
 use Rattle.lent.specs.Says.{MarkAll}
 use Rattle.lent.proofs.Shapes.{head, reply, state, said}
 use Rattle.sender_head.proofs.Head as D
 use Rattle.flat.proofs.Reply as N
 use Rattle.flat.proofs.Said as S
 use Rattle.lent.proofs.Sender as R
-use Rattle.flat_flight.proofs.mark_all as g
-use Rattle.flat_flight.proofs.mark_all.Symbol as g-def
-use Rattle.flat_flight.proofs.mark_all.Symbol.{name as #g}
-use Rattle.flat_flight.proofs.mark_all.Met as g-thm
+use Rattle.flat_calls.proofs.mark_all as g
+use Rattle.flat_calls.proofs.mark_all.Symbol as g-def
+use Rattle.flat_calls.proofs.mark_all.Symbol.{name as #g}
+use Rattle.flat_calls.proofs.mark_all.Met as g-thm
 use Rattle.lent.proofs.girdermoth_mark_all.Key.{name as #f}
 use Rattle.lent.proofs.girdermoth_mark_all as f
 use Rattle.lent.proofs.girdermoth_mark_all.Statement as stated
@@ -29,4 +29,4 @@ girdermoth-mark-all-spec 𝓤 H 𝓜 𝓖 𝓡 =
     (λ d ws ws′ r. Marks d ws (r .head) ws′ (r .reply))
     (λ h h′ y. MarkAll h h′ y)
     (λ h ws r e e′ j. j) #g (tablesOf 𝓤 H 𝓜 (tables 𝓤 H 𝓜 𝓡 code.env))
-    (cited 𝓤 H (tripleOf 𝓤 H (𝓖 .A) g.signature (g.spec 𝓤 H (𝓖 .A) (𝓜 .mem) (𝓡 .run))) 𝓜 𝓡 code.env #g g-def.routine code.calls-flat-flight·mark-all (g-thm.met 𝓤 H 𝓜 𝓖 𝓡)))
+    (cited 𝓤 H (tripleOf 𝓤 H (𝓖 .A) g.signature (g.spec 𝓤 H (𝓖 .A) (𝓜 .mem) (𝓡 .run))) 𝓜 𝓡 code.env #g g-def.routine code.calls-flat-calls·mark-all (g-thm.met 𝓤 H 𝓜 𝓖 𝓡)))

@@ -1,4 +1,4 @@
--- `lent::girdermoth_open_stream` meets its contract, by `flat_streams::open_stream`'s and walkkit's `on-head-2`.
+-- `lent::girdermoth_open_stream` meets its contract, by `flat_calls::open_stream`'s and walkkit's `on-head-2`.
 use mathlib.Core.Path.{subst}
 use mir.Syntax.{w16, w32}
 use contract.Running.{givenOf, tables, tablesOf}
@@ -10,17 +10,17 @@ use Rattle.sender_head.specs.Whole.{roomIn}
 use Rattle.sender.specs.Sizes.{sizes}
 use Rattle.walkkit.proofs.Lent.{of-uint}
 use Rattle.walkkit.proofs.OnHead.{on-head-2}
-use Rattle.flat_streams.specs.Says.{Opens}
+use Rattle.flat_calls.specs.Says.{Opens}
 use Rattle.lent.specs.Says.{Open}
 use Rattle.lent.proofs.Shapes.{head, reply, state, said}
 use Rattle.sender_head.proofs.Head as D
 use Rattle.flat.proofs.Reply as N
 use Rattle.flat.proofs.Said as S
 use Rattle.lent.proofs.Sender as R
-use Rattle.flat_streams.proofs.open_stream as g
-use Rattle.flat_streams.proofs.open_stream.Symbol as g-def
-use Rattle.flat_streams.proofs.open_stream.Symbol.{name as #g}
-use Rattle.flat_streams.proofs.open_stream.Met as g-thm
+use Rattle.flat_calls.proofs.open_stream as g
+use Rattle.flat_calls.proofs.open_stream.Symbol as g-def
+use Rattle.flat_calls.proofs.open_stream.Symbol.{name as #g}
+use Rattle.flat_calls.proofs.open_stream.Met as g-thm
 use Rattle.lent.proofs.girdermoth_open_stream.Key.{name as #f}
 use Rattle.lent.proofs.girdermoth_open_stream as f
 use Rattle.lent.proofs.girdermoth_open_stream.Statement as stated
@@ -36,4 +36,4 @@ girdermoth-open-stream-spec 𝓤 H 𝓜 𝓖 𝓡 =
     (λ d ws x₁ x₂ ws′ r. Opens (roomIn ws) x₁ x₂ d ws (r .head) ws′ (r .reply))
     (λ h x₁ x₂ h′ y. Open x₁ x₂ h h′ y)
     (λ h x₁ x₂ ws r e e′ j. subst (λ (room : Room). Opens room x₁ x₂ (h .head) (h .cells) (r .head) ws (r .reply)) (sizes (h .cells) e) j) #g (tablesOf 𝓤 H 𝓜 (tables 𝓤 H 𝓜 𝓡 code.env))
-    (cited 𝓤 H (tripleOf 𝓤 H (𝓖 .A) g.signature (g.spec 𝓤 H (𝓖 .A) (𝓜 .mem) (𝓡 .run))) 𝓜 𝓡 code.env #g g-def.routine code.calls-flat-streams·open-stream (g-thm.met 𝓤 H 𝓜 𝓖 𝓡)))
+    (cited 𝓤 H (tripleOf 𝓤 H (𝓖 .A) g.signature (g.spec 𝓤 H (𝓖 .A) (𝓜 .mem) (𝓡 .run))) 𝓜 𝓡 code.env #g g-def.routine code.calls-flat-calls·open-stream (g-thm.met 𝓤 H 𝓜 𝓖 𝓡)))

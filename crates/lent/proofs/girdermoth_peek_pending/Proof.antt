@@ -1,18 +1,18 @@
--- `lent::girdermoth_peek_pending` meets its contract, by `flat_asks::peek_pending`'s and walkkit's `on-shared-0`.
+-- `lent::girdermoth_peek_pending` meets its contract, by `flat_calls::peek_pending`'s and walkkit's `on-shared-0`.
 use contract.Running.{givenOf, tables, tablesOf}
 use denote.Triple.Spec.{tripleOf}
 use denote.Triple.Table.{entered, cited}
 use Rattle.walkkit.proofs.OnLook.{on-shared-0}
-use Rattle.flat_asks.specs.Says.{Peeks}
+use Rattle.flat_calls.specs.Says.{Peeks}
 use Rattle.lent.specs.Says.{PeekPending}
 use Rattle.lent.proofs.Shapes.{head, fragment, state, halves}
 use Rattle.sender_head.proofs.Head as D
 use Rattle.flat.proofs.Fragment as N
 use Rattle.lent.proofs.Sender as R
-use Rattle.flat_asks.proofs.peek_pending as g
-use Rattle.flat_asks.proofs.peek_pending.Symbol as g-def
-use Rattle.flat_asks.proofs.peek_pending.Symbol.{name as #g}
-use Rattle.flat_asks.proofs.peek_pending.Met as g-thm
+use Rattle.flat_calls.proofs.peek_pending as g
+use Rattle.flat_calls.proofs.peek_pending.Symbol as g-def
+use Rattle.flat_calls.proofs.peek_pending.Symbol.{name as #g}
+use Rattle.flat_calls.proofs.peek_pending.Met as g-thm
 use Rattle.lent.proofs.girdermoth_peek_pending.Key.{name as #f}
 use Rattle.lent.proofs.girdermoth_peek_pending as f
 use Rattle.lent.proofs.girdermoth_peek_pending.Statement as stated
@@ -28,4 +28,4 @@ girdermoth-peek-pending-spec 𝓤 H 𝓜 𝓖 𝓡 =
     (λ d ws y. Peeks d ws y)
     (λ h y. PeekPending h y)
     (λ h r e j. j) #g (tablesOf 𝓤 H 𝓜 (tables 𝓤 H 𝓜 𝓡 code.env))
-    (cited 𝓤 H (tripleOf 𝓤 H (𝓖 .A) g.signature (g.spec 𝓤 H (𝓖 .A) (𝓜 .mem) (𝓡 .run))) 𝓜 𝓡 code.env #g g-def.routine code.calls-flat-asks·peek-pending (g-thm.met 𝓤 H 𝓜 𝓖 𝓡)))
+    (cited 𝓤 H (tripleOf 𝓤 H (𝓖 .A) g.signature (g.spec 𝓤 H (𝓖 .A) (𝓜 .mem) (𝓡 .run))) 𝓜 𝓡 code.env #g g-def.routine code.calls-flat-calls·peek-pending (g-thm.met 𝓤 H 𝓜 𝓖 𝓡)))

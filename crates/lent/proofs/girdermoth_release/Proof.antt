@@ -1,4 +1,4 @@
--- `lent::girdermoth_release` meets its contract, by `flat_streams::release`'s and walkkit's `on-head-2`.
+-- `lent::girdermoth_release` meets its contract, by `flat_calls::release`'s and walkkit's `on-head-2`.
 use mir.Syntax.{w16, w64}
 use contract.Running.{givenOf, tables, tablesOf}
 use denote.Plain.{UInt}
@@ -7,17 +7,17 @@ use denote.Triple.Spec.{tripleOf}
 use denote.Triple.Table.{entered, cited}
 use Rattle.walkkit.proofs.Lent.{of-sint, of-uint}
 use Rattle.walkkit.proofs.OnHead.{on-head-2}
-use Rattle.flat_streams.specs.Says.{Releases}
+use Rattle.flat_calls.specs.Says.{Releases}
 use Rattle.lent.specs.Says.{Release}
 use Rattle.lent.proofs.Shapes.{head, reply, state, said}
 use Rattle.sender_head.proofs.Head as D
 use Rattle.flat.proofs.Reply as N
 use Rattle.flat.proofs.Said as S
 use Rattle.lent.proofs.Sender as R
-use Rattle.flat_streams.proofs.release as g
-use Rattle.flat_streams.proofs.release.Symbol as g-def
-use Rattle.flat_streams.proofs.release.Symbol.{name as #g}
-use Rattle.flat_streams.proofs.release.Met as g-thm
+use Rattle.flat_calls.proofs.release as g
+use Rattle.flat_calls.proofs.release.Symbol as g-def
+use Rattle.flat_calls.proofs.release.Symbol.{name as #g}
+use Rattle.flat_calls.proofs.release.Met as g-thm
 use Rattle.lent.proofs.girdermoth_release.Key.{name as #f}
 use Rattle.lent.proofs.girdermoth_release as f
 use Rattle.lent.proofs.girdermoth_release.Statement as stated
@@ -33,4 +33,4 @@ girdermoth-release-spec 𝓤 H 𝓜 𝓖 𝓡 =
     (λ d ws x₁ x₂ ws′ r. Releases x₁ x₂ d ws (r .head) ws′ (r .reply))
     (λ h x₁ x₂ h′ y. Release x₁ x₂ h h′ y)
     (λ h x₁ x₂ ws r e e′ j. j) #g (tablesOf 𝓤 H 𝓜 (tables 𝓤 H 𝓜 𝓡 code.env))
-    (cited 𝓤 H (tripleOf 𝓤 H (𝓖 .A) g.signature (g.spec 𝓤 H (𝓖 .A) (𝓜 .mem) (𝓡 .run))) 𝓜 𝓡 code.env #g g-def.routine code.calls-flat-streams·release (g-thm.met 𝓤 H 𝓜 𝓖 𝓡)))
+    (cited 𝓤 H (tripleOf 𝓤 H (𝓖 .A) g.signature (g.spec 𝓤 H (𝓖 .A) (𝓜 .mem) (𝓡 .run))) 𝓜 𝓡 code.env #g g-def.routine code.calls-flat-calls·release (g-thm.met 𝓤 H 𝓜 𝓖 𝓡)))

@@ -1,4 +1,4 @@
--- `lent::girdermoth_send` meets its contract, by `flat_messages::send`'s and walkkit's `on-head-1`.
+-- `lent::girdermoth_send` meets its contract, by `flat_calls::send`'s and walkkit's `on-head-1`.
 use mathlib.Core.Path.{subst}
 use mir.Syntax.{w64}
 use contract.Running.{givenOf, tables, tablesOf}
@@ -10,17 +10,17 @@ use Rattle.sender_head.specs.Whole.{roomIn}
 use Rattle.sender.specs.Sizes.{sizes}
 use Rattle.walkkit.proofs.Lent.{of-uint}
 use Rattle.walkkit.proofs.OnHead.{on-head-1}
-use Rattle.flat_messages.specs.Says.{Sends}
+use Rattle.flat_calls.specs.Says.{Sends}
 use Rattle.lent.specs.Says.{Send}
 use Rattle.lent.proofs.Shapes.{head, fragment, state, said-fragment}
 use Rattle.sender_head.proofs.Head as D
 use Rattle.flat.proofs.Fragment as N
 use Rattle.flat.proofs.SaidFragment as S
 use Rattle.lent.proofs.Sender as R
-use Rattle.flat_messages.proofs.send as g
-use Rattle.flat_messages.proofs.send.Symbol as g-def
-use Rattle.flat_messages.proofs.send.Symbol.{name as #g}
-use Rattle.flat_messages.proofs.send.Met as g-thm
+use Rattle.flat_calls.proofs.send as g
+use Rattle.flat_calls.proofs.send.Symbol as g-def
+use Rattle.flat_calls.proofs.send.Symbol.{name as #g}
+use Rattle.flat_calls.proofs.send.Met as g-thm
 use Rattle.lent.proofs.girdermoth_send.Key.{name as #f}
 use Rattle.lent.proofs.girdermoth_send as f
 use Rattle.lent.proofs.girdermoth_send.Statement as stated
@@ -36,4 +36,4 @@ girdermoth-send-spec 𝓤 H 𝓜 𝓖 𝓡 =
     (λ d ws x₁ ws′ r. Sends (roomIn ws) x₁ d ws (r .head) ws′ (r .reply))
     (λ h x₁ h′ y. Send x₁ h h′ y)
     (λ h x₁ ws r e e′ j. subst (λ (room : Room). Sends room x₁ (h .head) (h .cells) (r .head) ws (r .reply)) (sizes (h .cells) e) j) #g (tablesOf 𝓤 H 𝓜 (tables 𝓤 H 𝓜 𝓡 code.env))
-    (cited 𝓤 H (tripleOf 𝓤 H (𝓖 .A) g.signature (g.spec 𝓤 H (𝓖 .A) (𝓜 .mem) (𝓡 .run))) 𝓜 𝓡 code.env #g g-def.routine code.calls-flat-messages·send (g-thm.met 𝓤 H 𝓜 𝓖 𝓡)))
+    (cited 𝓤 H (tripleOf 𝓤 H (𝓖 .A) g.signature (g.spec 𝓤 H (𝓖 .A) (𝓜 .mem) (𝓡 .run))) 𝓜 𝓡 code.env #g g-def.routine code.calls-flat-calls·send (g-thm.met 𝓤 H 𝓜 𝓖 𝓡)))

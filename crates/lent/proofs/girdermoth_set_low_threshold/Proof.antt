@@ -1,4 +1,4 @@
--- `lent::girdermoth_set_low_threshold` meets its contract, by `flat_streams::set_low_threshold`'s and walkkit's `on-head-2`.
+-- `lent::girdermoth_set_low_threshold` meets its contract, by `flat_calls::set_low_threshold`'s and walkkit's `on-head-2`.
 use mir.Syntax.{w16, w64}
 use contract.Running.{givenOf, tables, tablesOf}
 use denote.Plain.{UInt}
@@ -6,17 +6,17 @@ use denote.Triple.Spec.{tripleOf}
 use denote.Triple.Table.{entered, cited}
 use Rattle.walkkit.proofs.Lent.{of-uint}
 use Rattle.walkkit.proofs.OnHead.{on-head-2}
-use Rattle.flat_streams.specs.Says.{SetsLow}
+use Rattle.flat_calls.specs.Says.{SetsLow}
 use Rattle.lent.specs.Says.{SetLow}
 use Rattle.lent.proofs.Shapes.{head, reply, state, said}
 use Rattle.sender_head.proofs.Head as D
 use Rattle.flat.proofs.Reply as N
 use Rattle.flat.proofs.Said as S
 use Rattle.lent.proofs.Sender as R
-use Rattle.flat_streams.proofs.set_low_threshold as g
-use Rattle.flat_streams.proofs.set_low_threshold.Symbol as g-def
-use Rattle.flat_streams.proofs.set_low_threshold.Symbol.{name as #g}
-use Rattle.flat_streams.proofs.set_low_threshold.Met as g-thm
+use Rattle.flat_calls.proofs.set_low_threshold as g
+use Rattle.flat_calls.proofs.set_low_threshold.Symbol as g-def
+use Rattle.flat_calls.proofs.set_low_threshold.Symbol.{name as #g}
+use Rattle.flat_calls.proofs.set_low_threshold.Met as g-thm
 use Rattle.lent.proofs.girdermoth_set_low_threshold.Key.{name as #f}
 use Rattle.lent.proofs.girdermoth_set_low_threshold as f
 use Rattle.lent.proofs.girdermoth_set_low_threshold.Statement as stated
@@ -32,4 +32,4 @@ girdermoth-set-low-threshold-spec 𝓤 H 𝓜 𝓖 𝓡 =
     (λ d ws x₁ x₂ ws′ r. SetsLow x₁ x₂ d ws (r .head) ws′ (r .reply))
     (λ h x₁ x₂ h′ y. SetLow x₁ x₂ h h′ y)
     (λ h x₁ x₂ ws r e e′ j. j) #g (tablesOf 𝓤 H 𝓜 (tables 𝓤 H 𝓜 𝓡 code.env))
-    (cited 𝓤 H (tripleOf 𝓤 H (𝓖 .A) g.signature (g.spec 𝓤 H (𝓖 .A) (𝓜 .mem) (𝓡 .run))) 𝓜 𝓡 code.env #g g-def.routine code.calls-flat-streams·set-low-threshold (g-thm.met 𝓤 H 𝓜 𝓖 𝓡)))
+    (cited 𝓤 H (tripleOf 𝓤 H (𝓖 .A) g.signature (g.spec 𝓤 H (𝓖 .A) (𝓜 .mem) (𝓡 .run))) 𝓜 𝓡 code.env #g g-def.routine code.calls-flat-calls·set-low-threshold (g-thm.met 𝓤 H 𝓜 𝓖 𝓡)))

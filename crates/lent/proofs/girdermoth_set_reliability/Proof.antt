@@ -1,4 +1,4 @@
--- `lent::girdermoth_set_reliability` meets its contract, by `flat_streams::set_reliability`'s and walkkit's `on-head-4`.
+-- `lent::girdermoth_set_reliability` meets its contract, by `flat_calls::set_reliability`'s and walkkit's `on-head-4`.
 use mir.Syntax.{w8, w16, w32}
 use contract.Running.{givenOf, tables, tablesOf}
 use denote.Plain.{Boolean, UInt}
@@ -6,17 +6,17 @@ use denote.Triple.Spec.{tripleOf}
 use denote.Triple.Table.{entered, cited}
 use Rattle.walkkit.proofs.Lent.{of-bool, of-uint}
 use Rattle.walkkit.proofs.OnHead.{on-head-4}
-use Rattle.flat_streams.specs.Says.{SetsReliability}
+use Rattle.flat_calls.specs.Says.{SetsReliability}
 use Rattle.lent.specs.Says.{SetReliability}
 use Rattle.lent.proofs.Shapes.{head, reply, state, said}
 use Rattle.sender_head.proofs.Head as D
 use Rattle.flat.proofs.Reply as N
 use Rattle.flat.proofs.Said as S
 use Rattle.lent.proofs.Sender as R
-use Rattle.flat_streams.proofs.set_reliability as g
-use Rattle.flat_streams.proofs.set_reliability.Symbol as g-def
-use Rattle.flat_streams.proofs.set_reliability.Symbol.{name as #g}
-use Rattle.flat_streams.proofs.set_reliability.Met as g-thm
+use Rattle.flat_calls.proofs.set_reliability as g
+use Rattle.flat_calls.proofs.set_reliability.Symbol as g-def
+use Rattle.flat_calls.proofs.set_reliability.Symbol.{name as #g}
+use Rattle.flat_calls.proofs.set_reliability.Met as g-thm
 use Rattle.lent.proofs.girdermoth_set_reliability.Key.{name as #f}
 use Rattle.lent.proofs.girdermoth_set_reliability as f
 use Rattle.lent.proofs.girdermoth_set_reliability.Statement as stated
@@ -32,4 +32,4 @@ girdermoth-set-reliability-spec 𝓤 H 𝓜 𝓖 𝓡 =
     (λ d ws x₁ x₂ x₃ x₄ ws′ r. SetsReliability x₁ x₂ x₃ x₄ d ws (r .head) ws′ (r .reply))
     (λ h x₁ x₂ x₃ x₄ h′ y. SetReliability x₁ x₂ x₃ x₄ h h′ y)
     (λ h x₁ x₂ x₃ x₄ ws r e e′ j. j) #g (tablesOf 𝓤 H 𝓜 (tables 𝓤 H 𝓜 𝓡 code.env))
-    (cited 𝓤 H (tripleOf 𝓤 H (𝓖 .A) g.signature (g.spec 𝓤 H (𝓖 .A) (𝓜 .mem) (𝓡 .run))) 𝓜 𝓡 code.env #g g-def.routine code.calls-flat-streams·set-reliability (g-thm.met 𝓤 H 𝓜 𝓖 𝓡)))
+    (cited 𝓤 H (tripleOf 𝓤 H (𝓖 .A) g.signature (g.spec 𝓤 H (𝓖 .A) (𝓜 .mem) (𝓡 .run))) 𝓜 𝓡 code.env #g g-def.routine code.calls-flat-calls·set-reliability (g-thm.met 𝓤 H 𝓜 𝓖 𝓡)))

@@ -1,4 +1,4 @@
--- `lent::girdermoth_statistics` meets its contract, by `flat_stream_asks::statistics`'s and walkkit's `on-shared-1`.
+-- `lent::girdermoth_statistics` meets its contract, by `flat_calls::statistics`'s and walkkit's `on-shared-1`.
 use mir.Syntax.{w16}
 use contract.Running.{givenOf, tables, tablesOf}
 use denote.Plain.{UInt}
@@ -6,16 +6,16 @@ use denote.Triple.Spec.{tripleOf}
 use denote.Triple.Table.{entered, cited}
 use Rattle.walkkit.proofs.Lent.{of-uint}
 use Rattle.walkkit.proofs.OnLook.{on-shared-1}
-use Rattle.flat_stream_asks.specs.Says.{Counted}
+use Rattle.flat_calls.specs.Says.{Tallied}
 use Rattle.lent.specs.Says.{Statistics}
 use Rattle.lent.proofs.Shapes.{head, counts, state, halves}
 use Rattle.sender_head.proofs.Head as D
 use Rattle.flat.proofs.Counts as N
 use Rattle.lent.proofs.Sender as R
-use Rattle.flat_stream_asks.proofs.statistics as g
-use Rattle.flat_stream_asks.proofs.statistics.Symbol as g-def
-use Rattle.flat_stream_asks.proofs.statistics.Symbol.{name as #g}
-use Rattle.flat_stream_asks.proofs.statistics.Met as g-thm
+use Rattle.flat_calls.proofs.statistics as g
+use Rattle.flat_calls.proofs.statistics.Symbol as g-def
+use Rattle.flat_calls.proofs.statistics.Symbol.{name as #g}
+use Rattle.flat_calls.proofs.statistics.Met as g-thm
 use Rattle.lent.proofs.girdermoth_statistics.Key.{name as #f}
 use Rattle.lent.proofs.girdermoth_statistics as f
 use Rattle.lent.proofs.girdermoth_statistics.Statement as stated
@@ -28,7 +28,7 @@ girdermoth-statistics-spec 𝓤 H 𝓜 𝓖 𝓡 =
     entered 𝓤 H (tripleOf 𝓤 H (𝓖 .A) f.signature (f.spec 𝓤 H (𝓖 .A) (𝓜 .mem) (𝓡 .run)))
     (tables 𝓤 H 𝓜 𝓡 code.env .C) (tables 𝓤 H 𝓜 𝓡 code.env .Λ) #f code.function (code.unfolded 𝓤 H 𝓜 𝓡)
     (on-shared-1 𝓤 H (𝓖 .A) W R.the-row D.the-row N.the-row (head 𝓤 H (𝓖 .A) W) (counts 𝓤 H (𝓖 .A) W) (state 𝓤 H (𝓖 .A) W) (halves 𝓤 H (𝓖 .A) W) (UInt w16) (of-uint 𝓤 H (𝓖 .A) W w16)
-    (λ d ws x₁ y. Counted x₁ d ws y)
+    (λ d ws x₁ y. Tallied x₁ d ws y)
     (λ h x₁ y. Statistics x₁ h y)
     (λ h x₁ r e j. j) #g (tablesOf 𝓤 H 𝓜 (tables 𝓤 H 𝓜 𝓡 code.env))
-    (cited 𝓤 H (tripleOf 𝓤 H (𝓖 .A) g.signature (g.spec 𝓤 H (𝓖 .A) (𝓜 .mem) (𝓡 .run))) 𝓜 𝓡 code.env #g g-def.routine code.calls-flat-stream-asks·statistics (g-thm.met 𝓤 H 𝓜 𝓖 𝓡)))
+    (cited 𝓤 H (tripleOf 𝓤 H (𝓖 .A) g.signature (g.spec 𝓤 H (𝓖 .A) (𝓜 .mem) (𝓡 .run))) 𝓜 𝓡 code.env #g g-def.routine code.calls-flat-calls·statistics (g-thm.met 𝓤 H 𝓜 𝓖 𝓡)))

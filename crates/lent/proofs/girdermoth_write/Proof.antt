@@ -1,4 +1,4 @@
--- `lent::girdermoth_write` meets its contract, by `flat_messages::write`'s and walkkit's `on-head-4`.
+-- `lent::girdermoth_write` meets its contract, by `flat_calls::write`'s and walkkit's `on-head-4`.
 use mathlib.Core.Path.{subst}
 use mir.Syntax.{w16, w32, w64}
 use contract.Running.{givenOf, tables, tablesOf}
@@ -10,17 +10,17 @@ use Rattle.sender_head.specs.Whole.{roomIn}
 use Rattle.sender.specs.Sizes.{sizes}
 use Rattle.walkkit.proofs.Lent.{of-uint}
 use Rattle.walkkit.proofs.OnHead.{on-head-4}
-use Rattle.flat_messages.specs.Says.{Writes}
+use Rattle.flat_calls.specs.Says.{Writes}
 use Rattle.lent.specs.Says.{Write}
 use Rattle.lent.proofs.Shapes.{head, reply, state, said}
 use Rattle.sender_head.proofs.Head as D
 use Rattle.flat.proofs.Reply as N
 use Rattle.flat.proofs.Said as S
 use Rattle.lent.proofs.Sender as R
-use Rattle.flat_messages.proofs.write as g
-use Rattle.flat_messages.proofs.write.Symbol as g-def
-use Rattle.flat_messages.proofs.write.Symbol.{name as #g}
-use Rattle.flat_messages.proofs.write.Met as g-thm
+use Rattle.flat_calls.proofs.write as g
+use Rattle.flat_calls.proofs.write.Symbol as g-def
+use Rattle.flat_calls.proofs.write.Symbol.{name as #g}
+use Rattle.flat_calls.proofs.write.Met as g-thm
 use Rattle.lent.proofs.girdermoth_write.Key.{name as #f}
 use Rattle.lent.proofs.girdermoth_write as f
 use Rattle.lent.proofs.girdermoth_write.Statement as stated
@@ -36,4 +36,4 @@ girdermoth-write-spec 𝓤 H 𝓜 𝓖 𝓡 =
     (λ d ws x₁ x₂ x₃ x₄ ws′ r. Writes (roomIn ws) x₁ x₂ x₃ x₄ d ws (r .head) ws′ (r .reply))
     (λ h x₁ x₂ x₃ x₄ h′ y. Write x₁ x₂ x₃ x₄ h h′ y)
     (λ h x₁ x₂ x₃ x₄ ws r e e′ j. subst (λ (room : Room). Writes room x₁ x₂ x₃ x₄ (h .head) (h .cells) (r .head) ws (r .reply)) (sizes (h .cells) e) j) #g (tablesOf 𝓤 H 𝓜 (tables 𝓤 H 𝓜 𝓡 code.env))
-    (cited 𝓤 H (tripleOf 𝓤 H (𝓖 .A) g.signature (g.spec 𝓤 H (𝓖 .A) (𝓜 .mem) (𝓡 .run))) 𝓜 𝓡 code.env #g g-def.routine code.calls-flat-messages·write (g-thm.met 𝓤 H 𝓜 𝓖 𝓡)))
+    (cited 𝓤 H (tripleOf 𝓤 H (𝓖 .A) g.signature (g.spec 𝓤 H (𝓖 .A) (𝓜 .mem) (𝓡 .run))) 𝓜 𝓡 code.env #g g-def.routine code.calls-flat-calls·write (g-thm.met 𝓤 H 𝓜 𝓖 𝓡)))

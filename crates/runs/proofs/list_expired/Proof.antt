@@ -8,7 +8,7 @@ use denote.Ref.{now}
 use Rattle.model.specs.Rings.{expiredInflight}
 use Rattle.model.specs.Calls.{toList}
 use Rattle.sender_head.specs.Whole.{senderOf}
-use Rattle.coded_answers.specs.Words.{words}
+use Rattle.coded_calls.specs.Words.{words}
 use Rattle.runs.specs.Listings.{part-room}
 use borrow.Author.Needs.{needs}
 use Rattle.runs.proofs.list_expired.Statement.{statement}

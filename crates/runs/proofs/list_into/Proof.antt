@@ -6,7 +6,7 @@ use denote.Ref.{now}
 use Rattle.model.specs.declared.Listed.{Listed}
 use Rattle.model.specs.Rings.{expiredInflight}
 use Rattle.rows.specs.Parts.{part}
-use Rattle.outbound_overdue.specs.Lean.{leanList}
+use Rattle.outbound_abandon.specs.LeanListing.{leanList}
 use Rattle.sender_head.specs.Whole.{senderOf}
 use Rattle.runs.specs.Listings.{lent, count-within, listed-on}
 use borrow.Author.Needs.{needs}

@@ -10,7 +10,7 @@ use Rattle.model.specs.Calls.{Answer, ExpiredInflight, Ask, toList}
 use Rattle.sender_head.specs.Whole.{senderOf}
 use Rattle.calls.specs.Meant.{meant, said}
 use Rattle.coded_calls.specs.Coded.{coded, callOf, Roomy}
-use Rattle.coded_answers.specs.Words.{words}
+use Rattle.coded_calls.specs.Words.{words}
 use Rattle.runs.specs.Going.{after-of}
 use borrow.Author.Needs.{needs}
 use Rattle.runs.proofs.one.Statement.{statement}

@@ -3,7 +3,7 @@ use mathlib.Core.Path.{sym, ap, _∙_}
 use lib.IntN.{ℤ}
 use mir.Facts.{toZ-ofZ}
 use denote.Ref.{now}
-use Rattle.stream_amounts.specs.Amounts.{freeing}
+use Rattle.stream.specs.Amounts.{freeing}
 use Rattle.sender_head.specs.Whole.{senderOf}
 use Rattle.sender_streams.specs.Changes.{release-refused, released}
 use borrow.Author.Needs.{needs}

@@ -3,7 +3,7 @@ use borrow.Author.Needs.{needs}
 use mathlib.Core.Path.{sym, ap, _∙_}
 use mathlib.Core.Bool.{Bool}
 use borrow.Author.Tests.{le-leb, lt-leb, not-true, not-false}
-use Rattle.timer_entry.specs.declared.Entry.{Entry}
+use Rattle.timer.specs.declared.Entry.{Entry}
 use Rattle.limits.specs.Moments.{passed}
 use Rattle.timer.proofs.TimerTable.is_expired.Statement.{statement}
 use Rattle.timer.proofs.TimerTable.is_expired.Tie as tie

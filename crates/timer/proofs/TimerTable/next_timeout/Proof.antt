@@ -5,9 +5,9 @@ use mathlib.Core.Path.{_≡_, refl, sym, _∙_}
 use Prim.Native.Nat.{_-_, _<_}
 use native.Mathlib.Omega.{arith}
 use lib.ListN.{getD, drop, length, drop-of-length-le}
-use Rattle.timer_entry.specs.declared.Timer.the-variants.{T1Init}
+use Rattle.timer.specs.declared.Timer.the-variants.{T1Init}
 use Rattle.limits.specs.Moments.{earlier}
-use Rattle.timer_entry.specs.Entries.{order}
+use Rattle.timer.specs.Entries.{order}
 use Rattle.timer.specs.Calls.{getOf, soonest, nextTimeoutOf}
 use Rattle.timer.proofs.Laws.{at-value, at-nothing, earlier-absent, one-more}
 use Rattle.timer.proofs.TimerTable.next_timeout.Statement.{statement}

@@ -1,2 +1,0 @@
--- The arguments of a script's calls.
-pub mod Arguments

@@ -1,3 +1,0 @@
--- Marks: the word of the small fields. Remarks: that word when some of them change.
-pub mod Marks
-pub mod Remarks

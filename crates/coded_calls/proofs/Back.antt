@@ -1,0 +1,89 @@
+-- By the answer; a flag or a moment is what it was.
+use mathlib.Core.Path.{_≡_, refl, ap}
+use mathlib.Core.Bool.{Bool, true, false}
+use mathlib.Core.List.{List, _++_}
+use Prim.Native.Nat.{ℕ}
+use lib.ListN.{length}
+use lib.Seq.{take-at, drop-at}
+use Rattle.limits.specs.declared.Moment.{Moment}
+use Rattle.model.specs.declared.Abandoned.{Abandoned}
+use Rattle.model.specs.declared.Amount.{Amount}
+use Rattle.model.specs.declared.Chunk.{Chunk}
+use Rattle.model.specs.declared.Counted.{Counted}
+use Rattle.model.specs.declared.Done.{Done}
+use Rattle.model.specs.declared.Earliest.{Earliest}
+use Rattle.model.specs.declared.Expired.{Expired}
+use Rattle.model.specs.declared.Found.{Found}
+use Rattle.model.specs.declared.Released.{Released}
+use Rattle.model.specs.declared.Sent.{Sent}
+use Rattle.model.specs.declared.TailExpired.{TailExpired}
+use Rattle.model.specs.declared.Written.{Written}
+use Rattle.model.specs.Rings.{tsnsAre, refused}
+use Rattle.model.specs.Calls.{toDo, toWrite, toRelease, toSend, toExpire, toExpireTail, toAbandon, toFind, toSeek, toMeasure, toCount, toList, number, yesNo}
+use Rattle.cells.specs.Words.{bitOf}
+use Rattle.coded_calls.specs.Words.{present, time, chunkWords}
+use Rattle.coded_calls.specs.Back.{flag, moment, chunkFrom, Read, plain, WordsTell}
+
+flag-back : (b : Bool) → flag (bitOf b) ≡ b
+flag-back true = refl
+flag-back false = refl
+
+moment-back : (m : Moment) → moment (present m) (time m) ≡ m
+moment-back Moment.Absent = refl
+moment-back (Moment.At t) = refl
+
+chunk-back : (c : Chunk) (us : List ℕ) → chunkFrom (chunkWords c us) ≡ c
+chunk-back c us = λ i.
+    let m = c .message in
+    record {
+      message =
+          record {
+            stream = m .stream;
+            ssn = m .ssn;
+            unordered = flag-back (m .unordered) i;
+            protocol = m .protocol;
+            number = m .number;
+            reliability = m .reliability;
+            deadline = moment-back (m .deadline) i;
+          };
+      offset = c .offset;
+      length = c .length;
+      nsent = c .nsent;
+      since = moment-back (c .since) i;
+      beginning = flag-back (c .beginning) i;
+      ending = flag-back (c .ending) i;
+      acked = flag-back (c .acked) i;
+      abandoned = flag-back (c .abandoned) i;
+      retransmit = flag-back (c .retransmit) i;
+    }
+
+pub words-tell : WordsTell
+words-tell (toDo (Done.Refused n)) us = refl
+words-tell (toDo Done.Done) us = refl
+words-tell (toWrite (Written.Refused n)) us = refl
+words-tell (toWrite (Written.Accepted high)) us = ap (λ (b : Bool). plain (toWrite (Written.Accepted b)) us) (flag-back high)
+words-tell (toRelease (Released.Refused n)) us = refl
+words-tell (toRelease (Released.Told low)) us = ap (λ (b : Bool). plain (toRelease (Released.Told b)) us) (flag-back low)
+words-tell (toSend (Sent.Refused n)) us = refl
+words-tell (toSend (Sent.Yielded t c)) us = ap (λ (d : Chunk). plain (toSend (Sent.Yielded t d)) us) (chunk-back c us)
+words-tell (toSend Sent.Nothing) us = refl
+words-tell (toExpire (Expired.Refused n)) us = refl
+words-tell (toExpire (Expired.Message id u b)) us = ap (λ (f : Bool). plain (toExpire (Expired.Message id f b)) us) (flag-back u)
+words-tell (toExpire Expired.Nothing) us = refl
+words-tell (toExpireTail (TailExpired.Refused n)) us = refl
+words-tell (toExpireTail (TailExpired.Message id n b)) us = refl
+words-tell (toExpireTail TailExpired.Nothing) us = refl
+words-tell (toAbandon Abandoned.Nothing) us = refl
+words-tell (toAbandon (Abandoned.Message id b)) us = refl
+words-tell (toFind Found.Nothing) us = refl
+words-tell (toFind (Found.One c)) us = ap (λ (d : Chunk). plain (toFind (Found.One d)) us) (chunk-back c us)
+words-tell (toSeek Earliest.Nothing) us = refl
+words-tell (toSeek (Earliest.Tsn t)) us = refl
+words-tell (toMeasure (Amount.Refused n)) us = refl
+words-tell (toMeasure (Amount.Is x)) us = refl
+words-tell (toCount (Counted.Refused n)) us = refl
+words-tell (toCount (Counted.Are s)) us = refl
+words-tell (toList (refused n)) us = refl
+words-tell (toList (tsnsAre l)) us = λ i. plain (toList (tsnsAre (take-at l us (length l) refl i))) (drop-at l us (length l) refl i)
+words-tell (number x) us = refl
+words-tell (yesNo b) us = ap (λ (f : Bool). plain (yesNo f) us) (flag-back b)

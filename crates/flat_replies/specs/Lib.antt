@@ -1,2 +1,0 @@
--- Replies: the flat reply of each answer.
-pub mod Replies

@@ -1,0 +1,101 @@
+// Entries of the flight are marked where they stand: acknowledged, given up, to be retransmitted. The counter of bytes stays the sum.
+use super::PayloadQueue;
+use model::Chunk;
+use ring::Ring;
+ghost use mathlib.Core.Path.{_≡_};
+ghost use mathlib.Core.List.{map};
+ghost use Rattle.model.specs.Lists.{keep};
+ghost use Rattle.model.specs.State.{inFlight, isOf};
+ghost use Rattle.model.specs.Rings.{bytes, givenUp};
+ghost use Rattle.model.specs.Flight.{acknowledged, toRetransmit};
+ghost use Rattle.ring.specs.Held.{held};
+ghost use Rattle.payload_queue.specs.Queue.{flightOf, Counted, changed, acked, heldIn};
+
+// The bytes that the entry held.
+pub struct Acked {
+    pub queue: PayloadQueue,
+    pub bytes: u32,
+}
+
+// The bytes that the message held in flight.
+pub struct Freed {
+    pub queue: PayloadQueue,
+    pub bytes: u64,
+}
+
+fn acknowledge(chunk: Chunk) -> Chunk
+    ensures { λ r. ⌜ r ≡ acknowledged chunk ⌝ }
+{
+    let mut marked = chunk;
+    marked.length = 0;
+    marked.acked = true;
+    marked.retransmit = false;
+    marked
+}
+
+// The entry of an unknown TSN is blank, holds nothing, and is put nowhere.
+pub fn mark_as_acked(q: PayloadQueue, cells: &mut [u64], tsn: u32) -> Acked
+    ensures { λ r. ⌜ (flightOf (r .queue) (now (cells .exit)) ≡ acked tsn (flightOf q (now (cells .entry)))) × (r .bytes ≡ heldIn (inFlight tsn (flightOf q (now (cells .entry))))) × (Counted q (now (cells .entry)) → Counted (r .queue) (now (cells .exit))) ⌝ }
+{
+    let ring = q.ring;
+    let i = super::place(q.oldest, tsn);
+    let chunk = ring::nth(ring, cells, i);
+    let marked = acknowledge(chunk);
+    ring::put(ring, cells, i, marked);
+    let left = std::num::wrapping_sub_u64(q.bytes, chunk.length as u64);
+    Acked {
+        queue: PayloadQueue {
+            ring: ring,
+            oldest: q.oldest,
+            bytes: left,
+        },
+        bytes: chunk.length,
+    }
+}
+
+// ---- all entries
+
+// The bytes that the entries of the message hold, which are given up on the way.
+fn give_up_all(ring: Ring, cells: &mut [u64], number: u64) -> u64
+    ensures { λ r. ⌜ (r ≡ bytes (keep (isOf number) (held ring (now (cells .entry))))) × (held ring (now (cells .exit)) ≡ map (givenUp number) (held ring (now (cells .entry)))) ⌝ }
+{
+    let n = ring::count(ring, cells);
+    let mut sum: u64 = 0;
+    let mut i = 0;
+    while i < n {
+        let released = ring::parts::give_up_nth(ring, cells, i, number);
+        sum += released as u64;
+        i += 1;
+    }
+    sum
+}
+
+// Gives up every entry of a message, and answers the bytes that they held.
+pub fn abandon_message(q: PayloadQueue, cells: &mut [u64], number: u64) -> Freed
+    ensures { λ r. ⌜ (flightOf (r .queue) (now (cells .exit)) ≡ changed (map (givenUp number)) (flightOf q (now (cells .entry)))) × (r .bytes ≡ bytes (keep (isOf number) (flightOf q (now (cells .entry)) .entries))) × (Counted q (now (cells .entry)) → Counted (r .queue) (now (cells .exit))) ⌝ }
+{
+    let ring = q.ring;
+    let released = give_up_all(ring, cells, number);
+    let left = std::num::wrapping_sub_u64(q.bytes, released);
+    Freed {
+        queue: PayloadQueue {
+            ring: ring,
+            oldest: q.oldest,
+            bytes: left,
+        },
+        bytes: released,
+    }
+}
+
+// Every entry that is neither acknowledged nor abandoned is to be retransmitted. The queue's numbers stay.
+pub fn mark_all_to_retransmit(q: PayloadQueue, cells: &mut [u64])
+    ensures { λ _. ⌜ (flightOf q (now (cells .exit)) ≡ changed (map toRetransmit) (flightOf q (now (cells .entry)))) × (Counted q (now (cells .entry)) → Counted q (now (cells .exit))) ⌝ }
+{
+    let ring = q.ring;
+    let n = ring::count(ring, cells);
+    let mut i = 0;
+    while i < n {
+        ring::parts::mark_nth(ring, cells, i);
+        i += 1;
+    }
+}

@@ -1,0 +1,76 @@
+// One field of the i-th chunk of a ring, or one change of it, for loops. A caller's proof goes by the list that the ring holds: a change of the
+// i-th is its `adjust`.
+use super::Ring;
+ghost use mathlib.Core.Path.{_≡_};
+ghost use Prim.Native.Nat.{min};
+ghost use lib.ListN.{getD};
+ghost use Rattle.limits.specs.Limits.{clockMax};
+ghost use Rattle.model.specs.Lists.{adjust};
+ghost use Rattle.model.specs.Rings.{givenUp, lowered, started};
+ghost use Rattle.model.specs.Flight.{toRetransmit, hasStream};
+ghost use Rattle.chunk_slot.specs.Chunks.{blankChunk};
+ghost use Rattle.chunk_slot.specs.Changes.{heldOf};
+ghost use Rattle.ring.specs.Held.{held};
+
+// The message number of the i-th, and 0 past the end.
+pub fn nth_number(ring: Ring, cells: &[u64], i: usize) -> u64
+    ensures { λ r. ⌜ r ≡ getD (held ring (now (cells .entry))) i blankChunk .message .number ⌝ }
+{
+    let at = super::slot(ring, cells, i);
+    chunk_slot::parts::number_at(cells, at)
+}
+
+// The stream of the i-th, and 0 past the end.
+pub fn nth_stream(ring: Ring, cells: &[u64], i: usize) -> u16
+    ensures { λ r. ⌜ r ≡ getD (held ring (now (cells .entry))) i blankChunk .message .stream ⌝ }
+{
+    let at = super::slot(ring, cells, i);
+    chunk_slot::parts::stream_at(cells, at)
+}
+
+// Whether some chunk is of the stream.
+pub fn has_stream(ring: Ring, cells: &[u64], stream: u16) -> bool
+    ensures { λ r. ⌜ r ≡ hasStream stream (held ring (now (cells .entry))) ⌝ }
+{
+    let n = super::count(ring, cells);
+    let mut i = 0;
+    while i < n {
+        if nth_stream(ring, cells, i) == stream {
+            return true;
+        }
+        i += 1;
+    }
+    false
+}
+
+// The i-th is to be retransmitted, if it is neither acknowledged nor abandoned.
+pub fn mark_nth(ring: Ring, cells: &mut [u64], i: usize)
+    ensures { λ _. ⌜ held ring (now (cells .exit)) ≡ adjust toRetransmit i (held ring (now (cells .entry))) ⌝ }
+{
+    let at = super::slot(ring, cells, i);
+    chunk_slot::parts::mark_at(cells, at);
+}
+
+// The i-th is given up, if it is of the message; the answer is the bytes that it held of it.
+pub fn give_up_nth(ring: Ring, cells: &mut [u64], i: usize, number: u64) -> u32
+    ensures { λ r. ⌜ (r ≡ heldOf number (getD (held ring (now (cells .entry))) i blankChunk)) × (held ring (now (cells .exit)) ≡ adjust (givenUp number) i (held ring (now (cells .entry)))) ⌝ }
+{
+    let at = super::slot(ring, cells, i);
+    chunk_slot::parts::give_up_at(cells, at, number)
+}
+
+// The SSN of the i-th drops by 1 modulo 2^16, if it is of the stream.
+pub fn lower_nth(ring: Ring, cells: &mut [u64], i: usize, stream: u16)
+    ensures { λ _. ⌜ held ring (now (cells .exit)) ≡ adjust (lowered stream) i (held ring (now (cells .entry))) ⌝ }
+{
+    let at = super::slot(ring, cells, i);
+    chunk_slot::parts::lower_at(cells, at, stream);
+}
+
+// The lifetime of the i-th starts, if its message has one and is not yet seen. A clock beyond its limit is taken as the limit.
+pub fn start_nth(ring: Ring, cells: &mut [u64], i: usize, clock: u64, unstarted: u64)
+    ensures { λ _. ⌜ held ring (now (cells .exit)) ≡ adjust (started (min clock clockMax) unstarted) i (held ring (now (cells .entry))) ⌝ }
+{
+    let at = super::slot(ring, cells, i);
+    chunk_slot::parts::start_at(cells, at, clock, unstarted);
+}

@@ -1,0 +1,13 @@
+-- The head knows it, whatever the cells are.
+use borrow.Author.Needs.{needs}
+use Rattle.sender.proofs.questions.inflight_bytes.Statement.{statement}
+use Rattle.sender.proofs.questions.inflight_bytes.Tie as tie
+
+inflight-bytes-requires : tie.Need-inflight-bytes-requires
+inflight-bytes-requires c κs = search needs
+
+returns : tie.Need-returns
+returns c = c .inflight-bytes .ensures (c .before .args .s .cells)
+
+pub inflight-bytes-spec : {M : Type 1} → statement M
+inflight-bytes-spec = tie.close (tie.spec inflight-bytes-requires returns)

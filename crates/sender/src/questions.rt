@@ -1,0 +1,102 @@
+// What is asked of a sender by value: nothing changes. Each answer is the model's (`answer` of model/specs/Calls), of every sender; the two
+// sums of bytes are kept, and are the sums where they were (`Sums`).
+use super::Sender;
+use model::Earliest;
+use model::Found;
+ghost use mathlib.Core.Path.{_≡_};
+ghost use mathlib.Core.List.{_++_};
+ghost use Prim.Native.Nat.{_+_};
+ghost use lib.ListN.{length};
+ghost use Rattle.model.specs.State.{inFlight, nextTsn};
+ghost use Rattle.model.specs.Rings.{head, bytes};
+ghost use Rattle.model.specs.Flight.{found, isAbandoned, hasStream, earliestOutstanding};
+ghost use Rattle.sender.specs.Value.{stateOf, Sums};
+
+// The entry of a TSN.
+pub fn get(s: Sender, tsn: u32) -> Found
+    ensures { λ r. ⌜ r ≡ found (inFlight tsn (stateOf s .flight)) ⌝ }
+{
+    let cells = s.cells;
+    sender_asks::get(s.head, &cells, tsn)
+}
+
+// No for a TSN that is not in flight.
+pub fn is_abandoned(s: Sender, tsn: u32) -> bool
+    ensures { λ r. ⌜ r ≡ isAbandoned (inFlight tsn (stateOf s .flight)) ⌝ }
+{
+    let cells = s.cells;
+    sender_asks::is_abandoned(s.head, &cells, tsn)
+}
+
+// The chunk that is sent next.
+pub fn peek_pending(s: Sender) -> Found
+    ensures { λ r. ⌜ r ≡ found (head (stateOf s .pending)) ⌝ }
+{
+    let cells = s.cells;
+    sender_asks::peek_pending(s.head, &cells)
+}
+
+// The number of the next message.
+pub fn next_message(s: Sender) -> u64
+    ensures { λ r. ⌜ r ≡ stateOf s .numbers .next ⌝ }
+{
+    sender_asks::next_message(s.head)
+}
+
+// The TSN of the next chunk that is sent.
+pub fn next_tsn(s: Sender) -> u32
+    ensures { λ r. ⌜ r ≡ nextTsn (stateOf s) ⌝ }
+{
+    let cells = s.cells;
+    sender_asks::next_tsn(s.head, &cells)
+}
+
+pub fn pending_length(s: Sender) -> usize
+    ensures { λ r. ⌜ r ≡ length (stateOf s .pending .unordered) + length (stateOf s .pending .ordered) ⌝ }
+{
+    let cells = s.cells;
+    sender_asks::pending_length(s.head, &cells)
+}
+
+pub fn pending_bytes(s: Sender) -> u64
+    ensures { λ r. ⌜ (Sums s → r ≡ bytes (stateOf s .pending .unordered) + bytes (stateOf s .pending .ordered)) ⌝ }
+{
+    sender_asks::pending_bytes(s.head)
+}
+
+pub fn inflight_length(s: Sender) -> usize
+    ensures { λ r. ⌜ r ≡ length (stateOf s .flight .entries) ⌝ }
+{
+    let cells = s.cells;
+    sender_asks::inflight_length(s.head, &cells)
+}
+
+pub fn inflight_bytes(s: Sender) -> u64
+    ensures { λ r. ⌜ (Sums s → r ≡ bytes (stateOf s .flight .entries)) ⌝ }
+{
+    sender_asks::inflight_bytes(s.head)
+}
+
+// The oldest TSN that is neither acknowledged nor abandoned.
+pub fn earliest_outstanding(s: Sender) -> Earliest
+    ensures { λ r. ⌜ r ≡ earliestOutstanding (stateOf s) ⌝ }
+{
+    let cells = s.cells;
+    sender_asks::earliest_outstanding(s.head, &cells)
+}
+
+// Whether a stream has chunks pending.
+pub fn pending_contains_stream(s: Sender, identifier: u16) -> bool
+    ensures { λ r. ⌜ r ≡ hasStream identifier (stateOf s .pending .unordered ++ stateOf s .pending .ordered) ⌝ }
+{
+    let cells = s.cells;
+    sender_asks::pending_contains_stream(s.head, &cells, identifier)
+}
+
+// Whether a stream has chunks pending or in flight.
+pub fn contains_stream(s: Sender, identifier: u16) -> bool
+    ensures { λ r. ⌜ r ≡ hasStream identifier (stateOf s .pending .unordered ++ stateOf s .pending .ordered ++ stateOf s .flight .entries) ⌝ }
+{
+    let cells = s.cells;
+    sender_asks::contains_stream(s.head, &cells, identifier)
+}

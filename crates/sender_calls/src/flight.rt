@@ -1,0 +1,77 @@
+// The sender's calls on the flight alone: each lends the queue's half of the cells to the crate below, and the table of streams stays. Each
+// equals 01's call of every head and every cells; the list of what has expired promises by `Does` what it does in states that no call makes,
+// and 01's list in every `Good` state.
+use model::Found;
+use model::Listed;
+use sender_head::Head;
+ghost use mathlib.Core.Path.{_≡_};
+ghost use lib.ListN.{length};
+ghost use Rattle.model.specs.Rings.{expiredInflight};
+ghost use Rattle.model.specs.Flight.{acknowledge, pop, markAll};
+ghost use Rattle.outbound_queue.specs.Outbound.{Does};
+ghost use Rattle.outbound_abandon.specs.LeanListing.{leanList, listedIn};
+ghost use Rattle.sender_head.specs.Whole.{roomIn, senderOf, Counted};
+
+// The bytes that the entry held.
+pub struct Acked {
+    pub head: Head,
+    pub bytes: u32,
+}
+
+pub struct Popped {
+    pub head: Head,
+    pub front: Found,
+}
+
+// The entry of a TSN is acknowledged, and holds nothing from then on.
+pub fn acknowledge(h: Head, cells: &mut [u64], tsn: u32) -> Acked
+    ensures { λ r. ⌜ (record { after = senderOf (r .head) (now (cells .exit)); says = r .bytes } ≡ acknowledge tsn (senderOf h (now (cells .entry)))) × (Counted h (now (cells .entry)) → Counted (r .head) (now (cells .exit))) ⌝ }
+{
+    let k = sender_head::table_words(cells);
+    let n = cells.len();
+    let acked = outbound_queue::mark_as_acked(h.queue, &mut cells[k..n], tsn);
+    let queue = acked.queue;
+    Acked {
+        head: Head {
+            queue: queue,
+            streams: h.streams,
+        },
+        bytes: acked.bytes,
+    }
+}
+
+// Takes the oldest entry, if it has this TSN.
+pub fn pop(h: Head, cells: &[u64], tsn: u32) -> Popped
+    ensures { λ r. ⌜ (record { after = senderOf (r .head) (now (cells .entry)); says = r .front } ≡ pop tsn (senderOf h (now (cells .entry)))) × (Counted h (now (cells .entry)) → Counted (r .head) (now (cells .entry))) ⌝ }
+{
+    let k = sender_head::table_words(cells);
+    let n = cells.len();
+    let rest = outbound_queue::pop(h.queue, &cells[k..n], tsn);
+    let queue = rest.queue;
+    let front = rest.front;
+    Popped {
+        head: Head {
+            queue: queue,
+            streams: h.streams,
+        },
+        front: front,
+    }
+}
+
+// Every entry that is neither acknowledged nor abandoned is to be retransmitted. The head stays.
+pub fn mark_all(h: Head, cells: &mut [u64])
+    ensures { λ _. ⌜ (senderOf h (now (cells .exit)) ≡ markAll (senderOf h (now (cells .entry)))) × (Counted h (now (cells .entry)) → Counted h (now (cells .exit))) ⌝ }
+{
+    let k = sender_head::table_words(cells);
+    let n = cells.len();
+    outbound_queue::mark_all_to_retransmit(h.queue, &mut cells[k..n])
+}
+
+// The TSNs in flight whose message has expired, in the front of the lent list; the rest of that stays. Refusals: 1, 11.
+pub fn expired_inflight(h: Head, cells: &[u64], clock: u64, out: &mut [u32]) -> Listed
+    ensures { λ r. ⌜ Does (roomIn (now (cells .entry))) (senderOf h (now (cells .entry))) (record { answer = r; list = now (out .exit) }) (listedIn (now (out .entry)) (leanList clock (length (now (out .entry))) (senderOf h (now (cells .entry))))) (listedIn (now (out .entry)) (expiredInflight clock (length (now (out .entry))) (senderOf h (now (cells .entry))))) ⌝ }
+{
+    let k = sender_head::table_words(cells);
+    let n = cells.len();
+    outbound_abandon::overdue::expired_inflight(h.queue, &cells[k..n], clock, out)
+}

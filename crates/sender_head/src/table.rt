@@ -1,0 +1,48 @@
+// The table of streams, in the cells of the whole sender: the queue's words stay as they are.
+use super::Head;
+use model::Stream;
+use stream_table::Place;
+ghost use mathlib.Core.Path.{_≡_};
+ghost use lib.ListN.{length, set};
+ghost use lib.Dec.{ltb};
+ghost use Rattle.model.specs.State.{withStreams};
+ghost use Rattle.stream_table.specs.Tables.{sought, joined};
+ghost use Rattle.sender_head.specs.Whole.{roomIn, senderOf, Counted};
+
+// Whether there was room.
+pub struct Joined {
+    pub head: Head,
+    pub done: bool,
+}
+
+// Where the stream of an identifier stands.
+pub fn seek(h: Head, cells: &[u64], identifier: u16) -> Place
+    ensures { λ r. ⌜ r ≡ sought identifier (senderOf h (now (cells .entry)) .streams) ⌝ }
+{
+    let k = super::table_words(cells);
+    stream_table::find(h.streams, &cells[0..k], identifier)
+}
+
+// The stream at a place is replaced. The head's numbers stay.
+pub fn replace(h: Head, cells: &mut [u64], place: usize, stream: Stream)
+    ensures { λ _. ⌜ (senderOf h (now (cells .exit)) ≡ withStreams (set (senderOf h (now (cells .entry)) .streams) place stream) (senderOf h (now (cells .entry)))) × (Counted h (now (cells .entry)) → Counted h (now (cells .exit))) ⌝ }
+{
+    let k = super::table_words(cells);
+    stream_table::update(h.streams, &mut cells[0..k], place, stream)
+}
+
+// One more at the end, where there is room.
+pub fn join(h: Head, cells: &mut [u64], stream: Stream) -> Joined
+    ensures { λ r. ⌜ (senderOf (r .head) (now (cells .exit)) ≡ withStreams (joined (roomIn (now (cells .entry)) .streams) (senderOf h (now (cells .entry)) .streams) stream) (senderOf h (now (cells .entry)))) × (r .done ≡ ltb (length (senderOf h (now (cells .entry)) .streams)) (roomIn (now (cells .entry)) .streams)) × (Counted h (now (cells .entry)) → Counted (r .head) (now (cells .exit))) ⌝ }
+{
+    let k = super::table_words(cells);
+    let opened = stream_table::open(h.streams, &mut cells[0..k], stream);
+    let queue = h.queue;
+    Joined {
+        head: Head {
+            queue: queue,
+            streams: opened.count,
+        },
+        done: opened.done,
+    }
+}

@@ -1,2 +1,0 @@
--- Tables: the table came back from a call, and the queue's words stay.
-pub mod Tables

@@ -1,2 +1,0 @@
--- Tapes: what was written, and what comes behind it.
-pub mod Tapes
