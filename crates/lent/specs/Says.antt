@@ -114,4 +114,4 @@ abbrev pub HighThreshold : (identifier : ℕ) → Sender → Reply → Type 0
 HighThreshold identifier s y = Flat.High identifier (s .head) (s .cells) y
 
 abbrev pub Statistics : (identifier : ℕ) → Sender → Counts → Type 0
-Statistics identifier s y = Flat.Counted identifier (s .head) (s .cells) y
+Statistics identifier s y = Flat.Tallied identifier (s .head) (s .cells) y
