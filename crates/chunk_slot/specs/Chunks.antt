@@ -1,13 +1,14 @@
 -- A chunk in a slot: seven words, and the eighth is left. Every eight words mean a chunk, and every chunk comes back from its words.
 use mathlib.Core.Path.{_≡_, refl, sym, ap, _∙_}
-use mathlib.Core.Bool.{Bool, false}
+use mathlib.Core.Bool.{Bool}
 use mathlib.Core.List.{List}
 use Prim.Native.Nat.{ℕ, _+_, _*_, _≤_, _<_}
 use native.Mathlib.Nat.{add-zero}
 use native.Mathlib.Omega.{arith}
 use lib.ListN.{length, getD, List·getD-eq-default}
-use Rattle.limits.specs.declared.Moment.the-variants.{Absent}
 use Rattle.model.specs.declared.Chunk.{Chunk}
+use Rattle.model.specs.Records.{makeMessage, renewed, makeChunk, withMessage, sentAs}
+pub use Rattle.model.specs.Records.{blankChunk}
 use Rattle.cells.specs.Slots.{roomOf, slotsOf, slots-past, slots-get, word-at}
 use Rattle.cells.specs.Words.{lowOf, highOf, flagsOf, isSet, timeOf, momentOf, moment-back}
 use Rattle.chunk_slot.specs.Marks.{Marks, marksIn, marksWord, marks-back}
@@ -23,27 +24,8 @@ pub record Packed (n s k p f r : ℕ) : Type 0 where
 
 unfoldable pub chunkFrom : (number deadline since offset protocol value length nsent : ℕ) → Marks → Chunk
 chunkFrom number deadline since offset protocol value length nsent x =
-    record {
-      message =
-          record {
-            stream = x .stream;
-            ssn = x .ssn;
-            unordered = x .unordered;
-            protocol = protocol;
-            number = number;
-            reliability = record { kind = x .kind; value = value };
-            deadline = momentOf (x .timed) deadline;
-          };
-      beginning = x .beginning;
-      ending = x .ending;
-      offset = offset;
-      length = length;
-      since = momentOf (x .sent) since;
-      nsent = nsent;
-      acked = x .acked;
-      abandoned = x .abandoned;
-      retransmit = x .retransmit;
-    }
+    makeChunk (makeMessage (x .stream) (x .ssn) (x .unordered) protocol number (record { kind = x .kind; value = value }) (momentOf (x .timed) deadline))
+    (x .beginning) (x .ending) offset length (momentOf (x .sent) since) nsent (x .acked) (x .abandoned) (x .retransmit)
 
 -- the chunk of seven words
 abbrev pub chunkOf : (number deadline since offset types sizes marks : ℕ) → Chunk
@@ -58,22 +40,7 @@ chunkIn w = chunkOf (getD w 0 0) (getD w 1 0) (getD w 2 0) (getD w 3 0) (getD w 
 abbrev pub chunks : List ℕ → List Chunk
 chunks ws = slotsOf chunkIn ws
 
--- what a slot that is not there reads as
-abbrev pub blankChunk : Chunk
-blankChunk =
-    record {
-      message = record { stream = 0; ssn = 0; unordered = false; protocol = 0; number = 0; reliability = record { kind = 0; value = 0 }; deadline = Absent };
-      beginning = false;
-      ending = false;
-      offset = 0;
-      length = 0;
-      since = Absent;
-      nsent = 0;
-      acked = false;
-      abandoned = false;
-      retransmit = false;
-    }
-
+-- a slot that is not there reads as one of 0s
 pub blank-chunk : chunkOf 0 0 0 0 0 0 0 ≡ blankChunk
 unfolding chunkFrom marksIn
 blank-chunk = refl
@@ -100,19 +67,7 @@ whole : (c : Chunk) → chunkFrom (c .message .number) (timeOf (c .message .dead
 unfolding chunkFrom
 whole c =
     let x = c .message in
-    λ i. record {
-      message =
-          record { stream = x .stream; ssn = x .ssn; unordered = x .unordered; protocol = x .protocol; number = x .number; reliability = x .reliability; deadline = moment-back (x .deadline) i };
-      beginning = c .beginning;
-      ending = c .ending;
-      offset = c .offset;
-      length = c .length;
-      since = moment-back (c .since) i;
-      nsent = c .nsent;
-      acked = c .acked;
-      abandoned = c .abandoned;
-      retransmit = c .retransmit;
-    }
+    λ i. sentAs (moment-back (c .since) i) (c .nsent) (withMessage (renewed (x .ssn) (moment-back (x .deadline) i) x) c)
 
 -- the words of which a chunk is stored, and the numbers and flags on the way to them
 pub record Stored (c : Chunk) (d s t z p f m : ℕ) (a b : Bool) : Type 0 where

@@ -18,6 +18,7 @@ use Rattle.model.specs.declared.Released.{Released}
 use Rattle.model.specs.declared.Sent.{Sent}
 use Rattle.model.specs.declared.TailExpired.{TailExpired}
 use Rattle.model.specs.declared.Written.{Written}
+use Rattle.model.specs.Records.{makeMessage, makeChunk}
 use Rattle.model.specs.Rings.{tsnsAre, refused}
 use Rattle.model.specs.Calls.{toDo, toWrite, toRelease, toSend, toExpire, toExpireTail, toAbandon, toFind, toSeek, toMeasure, toCount, toList, number, yesNo}
 use Rattle.cells.specs.Words.{bitOf}
@@ -35,27 +36,9 @@ moment-back (Moment.At t) = refl
 chunk-back : (c : Chunk) (us : List ℕ) → chunkFrom (chunkWords c us) ≡ c
 chunk-back c us = λ i.
     let m = c .message in
-    record {
-      message =
-          record {
-            stream = m .stream;
-            ssn = m .ssn;
-            unordered = flag-back (m .unordered) i;
-            protocol = m .protocol;
-            number = m .number;
-            reliability = m .reliability;
-            deadline = moment-back (m .deadline) i;
-          };
-      offset = c .offset;
-      length = c .length;
-      nsent = c .nsent;
-      since = moment-back (c .since) i;
-      beginning = flag-back (c .beginning) i;
-      ending = flag-back (c .ending) i;
-      acked = flag-back (c .acked) i;
-      abandoned = flag-back (c .abandoned) i;
-      retransmit = flag-back (c .retransmit) i;
-    }
+    let x = makeMessage (m .stream) (m .ssn) (flag-back (m .unordered) i) (m .protocol) (m .number) (m .reliability) (moment-back (m .deadline) i) in
+    makeChunk x (flag-back (c .beginning) i) (flag-back (c .ending) i) (c .offset) (c .length) (moment-back (c .since) i) (c .nsent)
+    (flag-back (c .acked) i) (flag-back (c .abandoned) i) (flag-back (c .retransmit) i)
 
 pub words-tell : WordsTell
 words-tell (toDo (Done.Refused n)) us = refl

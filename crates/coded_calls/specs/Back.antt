@@ -20,6 +20,7 @@ use Rattle.model.specs.declared.Sent.{Sent}
 use Rattle.model.specs.declared.TailExpired.{TailExpired}
 use Rattle.model.specs.declared.Written.{Written}
 use Rattle.model.specs.Lists.{if_then_else_}
+use Rattle.model.specs.Records.{makeMessage, makeChunk}
 use Rattle.model.specs.Rings.{tsnsAre, refused}
 use Rattle.model.specs.Calls.{Answer, toDo, toWrite, toRelease, toSend, toExpire, toExpireTail, toAbandon, toFind, toSeek, toMeasure, toCount, toList, number, yesNo}
 use Rattle.coded_calls.specs.Words.{words}
@@ -32,30 +33,13 @@ moment there when = if eqb there 1 then Moment.At when else Moment.Absent
 
 abbrev pub messageFrom : List ℕ → Message
 messageFrom w =
-    record {
-      stream = getD w 0 0;
-      ssn = getD w 1 0;
-      unordered = flag (getD w 2 0);
-      protocol = getD w 3 0;
-      number = getD w 4 0;
-      reliability = record { kind = getD w 5 0; value = getD w 6 0 };
-      deadline = moment (getD w 7 0) (getD w 8 0);
-    }
+    makeMessage (getD w 0 0) (getD w 1 0) (flag (getD w 2 0)) (getD w 3 0) (getD w 4 0) (record { kind = getD w 5 0; value = getD w 6 0 })
+    (moment (getD w 7 0) (getD w 8 0))
 
 abbrev pub chunkFrom : List ℕ → Chunk
 chunkFrom w =
-    record {
-      message = messageFrom w;
-      offset = getD w 10 0;
-      length = getD w 11 0;
-      nsent = getD w 12 0;
-      since = moment (getD w 13 0) (getD w 14 0);
-      beginning = flag (getD w 15 0);
-      ending = flag (getD w 16 0);
-      acked = flag (getD w 17 0);
-      abandoned = flag (getD w 18 0);
-      retransmit = flag (getD w 19 0);
-    }
+    makeChunk (messageFrom w) (flag (getD w 15 0)) (flag (getD w 16 0)) (getD w 10 0) (getD w 11 0) (moment (getD w 13 0) (getD w 14 0)) (getD w 12 0)
+    (flag (getD w 17 0)) (flag (getD w 18 0)) (flag (getD w 19 0))
 
 -- an answer, and the words behind it
 pub record Read : Type 0 where

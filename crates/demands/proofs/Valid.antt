@@ -11,7 +11,6 @@ use lib.ListN.{length, getElem?, length-append, length-map}
 use lib.Dec.{eqb, leb}
 use borrow.Author.Tests.{eqb-true, eqb-false, eq-eqb, ne-eqb, leb-false, leb-true}
 use Rattle.limits.specs.Limits.{Room}
-use Rattle.limits.specs.declared.Moment.the-variants.{Absent}
 use Rattle.model.specs.declared.Chunk.{Chunk}
 use Rattle.model.specs.declared.Message.{Message}
 use Rattle.model.specs.declared.Lane.{Lane}
@@ -20,7 +19,8 @@ use Rattle.model.specs.declared.UnderWay.{UnderWay}
 use Rattle.model.specs.declared.UnderWay.the-variants.{Idle, Sending}
 use Rattle.model.specs.Lists.{if_then_else_, keep, first, last, adjust}
 use Rattle.model.specs.State.{Sender, Pending, Numbers, fresh, withPending, at, inRings, withRing, isOf}
-use Rattle.model.specs.Messages.{piece, cut, numberAfter}
+use Rattle.model.specs.Records.{blankMessage, blankChunk}
+use Rattle.model.specs.Messages.{cut, numberAfter}
 use Rattle.model.specs.Rings.{laneAhead, headLane, head, begun, started, lowered, sentAt, underWayAfter, pendingOf, ended, without, compacted, marked, givenUp, terminator, terminators}
 use Rattle.demands.specs.Words.{Follows, behind, Each, numberOfHead}
 use Rattle.demands.specs.States.{Behind, Contiguous, Has}
@@ -189,18 +189,15 @@ StepIn v s = StepTo v (s .pending) (s .flight .entries) (s .numbers)
 abbrev pub EndsIn : {room : Room} {w : UnderWay} {q : Lane → List Chunk} {f : List Chunk} {k : Numbers} → Ok room w q f k → ℕ → Sender → Type 0
 EndsIn v n s = EndsTo v n (s .pending) (s .flight .entries) (s .numbers)
 
-nobody : Message
-nobody = record { stream = 0; ssn = 0; unordered = false; protocol = 0; number = 0; reliability = record { kind = 0; value = 0 }; deadline = Absent }
-
 pub valid-fresh : (room : Room) (t n : ℕ) → Valid room (fresh t n)
 valid-fresh room t n =
     record {
       fate = λ _. unused;
-      sheet = λ _. nobody;
-      last = piece nobody false false 0 0;
+      sheet = λ _. blankMessage;
+      last = blankChunk;
       unused-from = λ _ _. refl;
       last-sent = tt;
-      rings = both (λ l. Ring (Waiting (λ _. unused) (λ _. nobody) l) none 0 (at l (fresh t n .pending))) Unordered tt tt;
+      rings = both (λ l. Ring (Waiting (λ _. unused) (λ _. blankMessage) l) none 0 (at l (fresh t n .pending))) Unordered tt tt;
       flown = tt;
       chain = tt;
       ring-fits = both (λ l. length (at l (fresh t n .pending)) ≤ room .ring) Unordered (omega arith) (omega arith);

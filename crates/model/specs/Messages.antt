@@ -7,7 +7,6 @@ use lib.ListN.{length}
 use lib.Dec.{leb, ltb, eqb}
 use Rattle.limits.specs.Limits.{Room, offsetMax, bufferedMax, numberMax, ssns}
 use Rattle.limits.specs.Refusals.{beyondLimit, notOpen, messageLong, bufferFull, ringFull, numbersSpent}
-use Rattle.limits.specs.declared.Moment.the-variants.{Absent}
 use Rattle.model.specs.declared.Chunk.{Chunk}
 use Rattle.model.specs.declared.Lane.{Lane}
 use Rattle.model.specs.declared.Message.{Message}
@@ -15,6 +14,8 @@ use Rattle.model.specs.declared.Statistics.{Statistics}
 use Rattle.model.specs.declared.Stream.{Stream}
 use Rattle.model.specs.declared.Written.{Written}
 use Rattle.model.specs.Lists.{if_then_else_}
+use Rattle.model.specs.Records.{newMessage}
+pub use Rattle.model.specs.Records.{piece}
 use Rattle.model.specs.State.{Sender, Numbers, withStreams, withPending, withNumbers, at, laneOf, withRing, Out, same}
 use Rattle.model.specs.Streams.{find, put, accounted}
 
@@ -23,11 +24,6 @@ use Rattle.model.specs.Streams.{find, put, accounted}
 -- ceil (length / maximum)
 abbrev pub pieces : (length maximum : ℕ) → ℕ
 pieces l m = (l + (m - 1)) / m
-
--- one fragment, as it is written
-abbrev pub piece : Message → (beginning ending : Bool) → (offset length : ℕ) → Chunk
-piece x b e o l =
-    record { message = x; beginning = b; ending = e; offset = o; length = l; since = Absent; nsent = 0; acked = false; abandoned = false; retransmit = false }
 
 -- n fragments: all of m bytes but the last, which has the rest; B on the first if `b`, E on the last
 abbrev pub cut : Message → (b : Bool) → (n m offset length : ℕ) → List Chunk
@@ -49,8 +45,7 @@ isUnordered p t = not (isDcep p) && t .unordered
 
 -- fragments carry the stream's next SSN and its reliability as they stand at the write
 abbrev pub messageOf : (protocol number : ℕ) → Stream → Message
-messageOf p n t =
-    record { stream = t .identifier; ssn = t .ssn; unordered = isUnordered p t; protocol = p; number = n; reliability = t .reliability; deadline = Absent }
+messageOf p n t = newMessage (isUnordered p t) p n t
 
 -- the fragments of a message of a stream
 abbrev pub fragments : (protocol number offset length : ℕ) → Stream → List Chunk

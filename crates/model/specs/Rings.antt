@@ -8,7 +8,6 @@ use lib.Dec.{leb, ltb, eqb}
 use Rattle.limits.specs.Limits.{Room, clockMax, ssns, tsns}
 use Rattle.limits.specs.Refusals.{beyondLimit, flightFull, listShort}
 use Rattle.limits.specs.Moments.{passed}
-use Rattle.limits.specs.declared.Moment.{Moment}
 use Rattle.limits.specs.declared.Moment.the-variants.{Absent, At}
 use Rattle.model.specs.declared.Chunk.{Chunk}
 use Rattle.model.specs.declared.Lane.{Lane}
@@ -23,6 +22,8 @@ use Rattle.model.specs.declared.Expired.{Expired}
 use Rattle.model.specs.declared.TailExpired.{TailExpired}
 use Rattle.model.specs.declared.Abandoned.{Abandoned}
 use Rattle.model.specs.Lists.{if_then_else_, keep, some-of, first, last, total}
+use Rattle.model.specs.Records.{flagged, sentAs}
+pub use Rattle.model.specs.Records.{withMessage, renewed, marked}
 use Rattle.model.specs.State.{Sender, Pending, withStreams, withPending, withEntries, withNumbers, at, inRings, withRing, nextTsn, inFlight, isOf, Out, same}
 use Rattle.model.specs.Streams.{find, put, accounted}
 use Rattle.model.specs.Messages.{isDcep}
@@ -41,14 +42,6 @@ abbrev pub head : Pending → Option Chunk
 head p = first (at (headLane p) p)
 
 -- ---- changes of one chunk while it is pending
-
-abbrev pub withMessage : Message → Chunk → Chunk
-withMessage x c =
-    record { message = x; beginning = c .beginning; ending = c .ending; offset = c .offset; length = c .length; since = c .since; nsent = c .nsent; acked = c .acked; abandoned = c .abandoned; retransmit = c .retransmit }
-
-abbrev pub renewed : (ssn : ℕ) → (deadline : Moment) → Message → Message
-renewed n d x =
-    record { stream = x .stream; ssn = n; unordered = x .unordered; protocol = x .protocol; number = x .number; reliability = x .reliability; deadline = d }
 
 -- a message has a lifetime if it is Timed, except type 50
 abbrev pub hasLifetime : Message → Bool
@@ -85,8 +78,7 @@ startLifetimes now s =
 
 -- since = now, nsent = 1
 abbrev pub sentAt : (now : ℕ) → Chunk → Chunk
-sentAt now c =
-    record { message = c .message; beginning = c .beginning; ending = c .ending; offset = c .offset; length = c .length; since = At now; nsent = 1; acked = c .acked; abandoned = c .abandoned; retransmit = c .retransmit }
+sentAt now c = sentAs (At now) 1 c
 
 -- a non-ending fragment puts its message under way, an ending one ends that
 abbrev pub underWayAfter : Lane → Chunk → UnderWay
@@ -168,17 +160,12 @@ expirePending now s = if ltb clockMax now then same (Expired.Refused beyondLimit
 -- ---- abandoning a message
 
 -- its flight entries: abandoned, not to retransmit, and they hold nothing
-abbrev pub marked : (length : ℕ) → (acked abandoned retransmit : Bool) → Chunk → Chunk
-marked l a b r c =
-    record { message = c .message; beginning = c .beginning; ending = c .ending; offset = c .offset; length = l; since = c .since; nsent = c .nsent; acked = a; abandoned = b; retransmit = r }
-
 abbrev pub givenUp : (number : ℕ) → Chunk → Chunk
 givenUp n c = if isOf n c then marked 0 (c .acked) true false c else c
 
 -- the last removed chunk's fields, no bytes, B off, E on, abandoned, not to retransmit, since absent, nsent 0
 abbrev pub terminator : Chunk → Chunk
-terminator c =
-    record { message = c .message; beginning = false; ending = true; offset = c .offset; length = 0; since = Absent; nsent = 0; acked = c .acked; abandoned = true; retransmit = false }
+terminator c = marked 0 (c .acked) true false (flagged false true (sentAs Absent 0 c))
 
 -- one terminator if there were pending chunks
 abbrev pub terminators : (lastRemoved : Option Chunk) → List Chunk

@@ -1,6 +1,6 @@
 -- Opening a stream, its settings, and the buffered amount.
 use Prim.Native.Nat.{ℕ, _-_}
-use mathlib.Core.Bool.{Bool, false, not, _&&_}
+use mathlib.Core.Bool.{Bool, not, _&&_}
 use mathlib.Core.Option.{Option, none, some}
 use mathlib.Core.List.{List, [], _∷_, _++_}
 use lib.ListN.{length}
@@ -8,14 +8,14 @@ use lib.Dec.{leb, ltb, eqb}
 use lib.IntN.{ℤ, pos, negsuc}
 use Rattle.limits.specs.Limits.{Room, payloadMax}
 use Rattle.limits.specs.Refusals.{badBounds, notOpen, alreadyOpen, streamsFull}
-use Rattle.model.specs.declared.Reliability.{Reliability}
-use Rattle.model.specs.declared.Statistics.{Statistics}
 use Rattle.model.specs.declared.Stream.{Stream}
 use Rattle.model.specs.declared.Done.{Done}
 use Rattle.model.specs.declared.Released.{Released}
 use Rattle.model.specs.declared.Amount.{Amount}
 use Rattle.model.specs.declared.Counted.{Counted}
 use Rattle.model.specs.Lists.{if_then_else_}
+use Rattle.model.specs.Records.{newStream}
+pub use Rattle.model.specs.Records.{delivering, thresholds, accounted}
 use Rattle.model.specs.State.{Sender, withStreams, Out, same}
 
 -- ---- the table of streams
@@ -29,28 +29,11 @@ abbrev pub put : Stream → List Stream → List Stream
 put t [] = []
 put t (x ∷ l) = if eqb (x .identifier) (t .identifier) then (t ∷ l) else (x ∷ put t l)
 
--- ---- changes of one stream
-
--- how its messages are delivered
-abbrev pub delivering : (unordered : Bool) → Reliability → Stream → Stream
-delivering u r t =
-    record { identifier = t .identifier; maximum = t .maximum; unordered = u; reliability = r; ssn = t .ssn; buffered = t .buffered; low = t .low; high = t .high; statistics = t .statistics }
-
-abbrev pub thresholds : (low high : ℕ) → Stream → Stream
-thresholds l h t =
-    record { identifier = t .identifier; maximum = t .maximum; unordered = t .unordered; reliability = t .reliability; ssn = t .ssn; buffered = t .buffered; low = l; high = h; statistics = t .statistics }
-
--- what a write, a release or an expiry changes: next SSN, buffered amount and statistics
-abbrev pub accounted : (ssn buffered : ℕ) → Statistics → Stream → Stream
-accounted n b x t =
-    record { identifier = t .identifier; maximum = t .maximum; unordered = t .unordered; reliability = t .reliability; ssn = n; buffered = b; low = t .low; high = t .high; statistics = x }
-
 -- ---- open: 2, 4, 5
 
 -- a new stream is ordered, Reliable, with value 0; its low threshold is 0, its high one 2 ^ 64 - 1
 abbrev pub opened : (identifier maximum : ℕ) → Stream
-opened id m =
-    record { identifier = id; maximum = m; unordered = false; reliability = record { kind = 0; value = 0 }; ssn = 0; buffered = 0; low = 0; high = 18446744073709551615; statistics = record { messages = 0; bytes = 0 } }
+opened id m = newStream id m 18446744073709551615
 
 abbrev pub openNew : Option Stream → Room → (identifier maximum : ℕ) → Sender → Out Done
 openNew (some t) room id m s = same (Done.Refused alreadyOpen) s

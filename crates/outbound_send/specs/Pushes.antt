@@ -13,14 +13,10 @@ use Rattle.model.specs.declared.Chunk.{Chunk}
 use Rattle.model.specs.declared.Done.{Done}
 use Rattle.model.specs.declared.Message.{Message}
 use Rattle.model.specs.Lists.{if_then_else_}
+pub use Rattle.model.specs.Records.{numberedAs}
 use Rattle.model.specs.State.{Sender, Numbers, Out, same, at, laneOf, withPending, withNumbers, withRing}
 use Rattle.model.specs.Messages.{pieces, cut, numberAfter, pushed}
 use Rattle.pending_queue.specs.Fragments.{withFragments, fits-yes, added-all}
-
--- the message with another number
-abbrev pub numberedAs : (number : ℕ) → Message → Message
-numberedAs n x =
-    record { stream = x .stream; ssn = x .ssn; unordered = x .unordered; protocol = x .protocol; number = n; reliability = x .reliability; deadline = x .deadline }
 
 -- its fragments join the back of their ring, and a number is taken if there is one, as `accepted` of the model says
 abbrev pub queued : Message → (maximum offset length : ℕ) → Sender → Sender

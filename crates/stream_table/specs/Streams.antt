@@ -1,29 +1,22 @@
 -- A stream in a slot: six words, and two are left. Every eight words mean a stream, and every stream comes back from its words.
 use mathlib.Core.Path.{_≡_, refl, sym, ap, _∙_}
-use mathlib.Core.Bool.{Bool, false}
+use mathlib.Core.Bool.{Bool}
 use mathlib.Core.List.{List}
 use Prim.Native.Nat.{ℕ, _+_, _*_, _/_, _%_, _≤_, _<_}
 use native.Mathlib.Nat.{add-zero}
 use native.Mathlib.Omega.{arith}
 use lib.ListN.{getD, List·getD-eq-default}
 use Rattle.model.specs.declared.Stream.{Stream}
+use Rattle.model.specs.Records.{makeStream}
+pub use Rattle.model.specs.Records.{blankStream}
 use Rattle.cells.specs.Slots.{roomOf, slotsOf, slots-past, slots-get, word-at}
 use Rattle.cells.specs.Words.{lowOf, highOf, bitOf, bitAt, bit-small, bit-back}
 
 -- the stream of six words; the last holds identifier, maximum, SSN, kind and a bit for unordered
 unfoldable pub streamOf : (low high messages bytes amounts marks : ℕ) → Stream
 streamOf low high messages bytes amounts marks =
-    record {
-      identifier = marks % 65536;
-      maximum = marks / 65536 % 65536;
-      unordered = bitAt 72057594037927936 marks;
-      reliability = record { kind = marks / 281474976710656 % 256; value = lowOf amounts };
-      ssn = marks / 4294967296 % 65536;
-      buffered = highOf amounts;
-      low = low;
-      high = high;
-      statistics = record { messages = messages; bytes = bytes };
-    }
+    makeStream (marks % 65536) (marks / 65536 % 65536) (bitAt 72057594037927936 marks) (record { kind = marks / 281474976710656 % 256; value = lowOf amounts })
+    (marks / 4294967296 % 65536) (highOf amounts) low high (record { messages = messages; bytes = bytes })
 
 -- the stream of a slot's words
 abbrev pub streamIn : List ℕ → Stream
@@ -33,11 +26,7 @@ streamIn w = streamOf (getD w 0 0) (getD w 1 0) (getD w 2 0) (getD w 3 0) (getD 
 abbrev pub streams : List ℕ → List Stream
 streams ws = slotsOf streamIn ws
 
--- what a slot that is not there reads as
-abbrev pub blankStream : Stream
-blankStream =
-    record { identifier = 0; maximum = 0; unordered = false; reliability = record { kind = 0; value = 0 }; ssn = 0; buffered = 0; low = 0; high = 0; statistics = record { messages = 0; bytes = 0 } }
-
+-- a slot that is not there reads as one of 0s
 pub blank-stream : streamOf 0 0 0 0 0 0 ≡ blankStream
 unfolding streamOf
 blank-stream = refl
@@ -83,14 +72,5 @@ unfolding streamOf
 stream-back t amounts settings l h q =
     let p = parts (t .identifier) (t .maximum) (t .ssn) (t .reliability .kind) (bitOf (t .unordered)) (q .identifier) (q .maximum) (q .ssn) (q .kind) (bit-small (t .unordered)) in
     ap (streamOf (t .low) (t .high) (t .statistics .messages) (t .statistics .bytes) amounts) (q .word)
-    ∙ λ i. record {
-      identifier = p .identifier i;
-      maximum = p .maximum i;
-      unordered = bit-back (t .unordered) _ (p .unordered) i;
-      reliability = record { kind = p .kind i; value = l i };
-      ssn = p .ssn i;
-      buffered = h i;
-      low = t .low;
-      high = t .high;
-      statistics = t .statistics;
-    }
+    ∙ λ i. makeStream (p .identifier i) (p .maximum i) (bit-back (t .unordered) _ (p .unordered) i) (record { kind = p .kind i; value = l i })
+    (p .ssn i) (h i) (t .low) (t .high) (t .statistics)
