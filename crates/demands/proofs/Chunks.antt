@@ -26,7 +26,7 @@ use Rattle.limits.specs.Moments.{passed}
 use Rattle.model.specs.Flight.{acknowledged, toRetransmit, outstanding}
 use Rattle.model.specs.Calls.{Call, Answer, step, run}
 use Rattle.demands.specs.Words.{Each}
-use Rattle.demands.specs.States.{present, Lifetime, NoDcepDeadline, IsOpen, PendingChunk, FlightEntry, Distinct}
+use Rattle.demands.specs.States.{present, Lifetime, NoDcepDeadline, IsOpen, PendingChunk, FlightEntry, Sized, Distinct}
 use Rattle.demands.proofs.Basic.{if-case, bool-case, and-r}
 use Rattle.demands.proofs.Each.{each-weaken, each-map, each-unmap, each-unkeep, each-adjust, each-get}
 use Rattle.demands.proofs.Lists.{Lists, joined-parts, notOf, at-without, lists-head, lists-weaken, lists-map, lists-ring, lists-pushed, lists-taken, lists-without, lists-abandoned}
@@ -214,11 +214,12 @@ pub record Chunked (room : Room) (s : Sender) : Type 0 where
   pub unstarted : s .numbers .unstarted ≤ s .numbers .next
   pub unseen : NoneUnseen (s .pending) (s .numbers)
   pub distinct : Distinct (s .streams)
+  pub maxima : Each Sized (s .streams)
   pub streamRoom : length (s .streams) ≤ room .streams
 
 pub chunked-fresh : (room : Room) (t n : ℕ) → Chunked room (fresh t n)
 chunked-fresh room t n =
-    record { pending = λ l. elim l [ Unordered ↦ tt | Ordered ↦ tt ]; flying = tt; unstarted = le-refl n; unseen = λ _. refl; distinct = tt; streamRoom = omega arith }
+    record { pending = λ l. elim l [ Unordered ↦ tt | Ordered ↦ tt ]; flying = tt; unstarted = le-refl n; unseen = λ _. refl; distinct = tt; maxima = tt; streamRoom = omega arith }
 
 pub number-after : (k : ℕ) (n : Numbers) → (n .next ≤ numberAfter k n .next) × (numberAfter k n .unstarted ≡ n .unstarted)
 number-after zero n = (le-refl _, refl)
@@ -258,11 +259,11 @@ module _ (room : Room) (k : Call) (s : Sender) (v : Chunked room s) where
   with-table : (l : List Stream) → Table room k (s .streams) l → Chunked room (withStreams l s)
   with-table l t =
       let g = lists-grow (s .streams) l (s .numbers) (s .numbers) (s .pending) (s .flight .entries) (record { still = t .still; next = le-refl _; unstarted = refl }) lists in
-      record { pending = g .pending; flying = g .flying; unstarted = v .unstarted; unseen = v .unseen; distinct = t .distinct (v .distinct); streamRoom = t .within (v .streamRoom) }
+      record { pending = g .pending; flying = g .flying; unstarted = v .unstarted; unseen = v .unseen; distinct = t .distinct (v .distinct); maxima = t .sized (v .maxima); streamRoom = t .within (v .streamRoom) }
 
   with-lists : (p : Pending) (t : ℕ) (f : List Chunk) → Lists P Q p f → NoneUnseen p (s .numbers)
       → Chunked room (record { streams = s .streams; pending = p; flight = record { oldest = t; entries = f }; numbers = s .numbers })
-  with-lists p t f a u = record { pending = a .pending; flying = a .flying; unstarted = v .unstarted; unseen = u; distinct = v .distinct; streamRoom = v .streamRoom }
+  with-lists p t f a u = record { pending = a .pending; flying = a .flying; unstarted = v .unstarted; unseen = u; distinct = v .distinct; maxima = v .maxima; streamRoom = v .streamRoom }
 
   with-flight : (t : ℕ) (f : List Chunk) → Each Q f → Chunked room (record { streams = s .streams; pending = s .pending; flight = record { oldest = t; entries = f }; numbers = s .numbers })
   with-flight t f a = with-lists (s .pending) t f (record { pending = v .pending; flying = a }) (v .unseen)
@@ -299,7 +300,7 @@ module _ (room : Room) (k : Call) (s : Sender) (v : Chunked room s) where
   started-chunked : (now : ℕ) → Chunked room (withLifetimes now s)
   started-chunked now =
       let a = lists-started (s .streams) (s .numbers) now (s .pending) (s .flight .entries) (v .unstarted) lists in
-      record { pending = a .pending; flying = a .flying; unstarted = le-refl _; unseen = λ _. refl; distinct = v .distinct; streamRoom = v .streamRoom }
+      record { pending = a .pending; flying = a .flying; unstarted = le-refl _; unseen = λ _. refl; distinct = v .distinct; maxima = v .maxima; streamRoom = v .streamRoom }
 
   -- the front of a ring is sent, when all is seen
   taken-chunked : (i : Lane) (now : ℕ) (c : Chunk) (x : List Chunk) → at i (s .pending) ≡ c ∷ x → s .numbers .unstarted ≡ s .numbers .next → Chunked room (taken i now c x s)
@@ -317,7 +318,7 @@ module _ (room : Room) (k : Call) (s : Sender) (v : Chunked room s) where
       l = put (written p len t) (s .streams)
 
       table : Table room k (s .streams) l
-      table = table-put room k (h .identifier) (s .streams) t (written p len t) (h .found) (λ _. written-fits p len t (h .held))
+      table = table-put room k (h .identifier) (s .streams) t (written p len t) (h .found) refl (λ _. written-fits p len t (h .held))
 
       here : IsOpen l x
       here = subst (λ (i : ℕ). (t′ : Stream) × (find i l ≡ some t′)) (sym (found-is (h .identifier) (s .streams) t (h .found))) (table .still (h .identifier) t (h .found))
@@ -343,7 +344,7 @@ module _ (room : Room) (k : Call) (s : Sender) (v : Chunked room s) where
           let after = number-after j (s .numbers) in
           let g = lists-grow (s .streams) l (s .numbers) n (s .pending) (s .flight .entries) (record { still = table .still; next = after .0; unstarted = after .1 }) lists in
           let b = lists-pushed (PendingChunk l n) (FlightEntry l n) (laneOf (x .unordered)) (s .pending .underWay) (cut x true j (t .maximum) o len) (s .pending) (s .flight .entries) (new j a) g in
-          record { pending = b .pending; flying = b .flying; unstarted = omega (arith, v .unstarted); unseen = none-unseen j; distinct = table .distinct (v .distinct); streamRoom = table .within (v .streamRoom) }
+          record { pending = b .pending; flying = b .flying; unstarted = omega (arith, v .unstarted); unseen = none-unseen j; distinct = table .distinct (v .distinct); maxima = table .sized (v .maxima); streamRoom = table .within (v .streamRoom) }
 
 compacted-chunked : (room : Room) (k : Call) (s : Sender) → Chunked room s → (b : Bool) (id : ℕ) → Chunked room (compacted b id s)
 compacted-chunked room k s v true id = v

@@ -2,7 +2,7 @@
 use Prim.Native.Nat.{ℕ, zero, suc, _+_, _≤_, _<_}
 use native.Mathlib.Nat.{le-refl, le-trans}
 use native.Mathlib.Omega.{arith}
-use mathlib.Core.Path.{_≡_, sym, ap, subst, _∙_}
+use mathlib.Core.Path.{_≡_, refl, sym, ap, subst, _∙_}
 use mathlib.Core.Bool.{Bool, true, false, _&&_}
 use mathlib.Core.Option.{Option}
 use mathlib.Core.List.{List, [], _∷_, _++_, map}
@@ -163,7 +163,7 @@ module _ (room : Room) (k : Call) (s : Sender) (v : Fits room s) where
       x = messageOf p (s .numbers .next) t
 
       table : Table room k (s .streams) (put (written p len t) (s .streams))
-      table = table-put room k (h .identifier) (s .streams) t (written p len t) (h .found) (λ _. written-fits p len t (h .held))
+      table = table-put room k (h .identifier) (s .streams) t (written p len t) (h .found) refl (λ _. written-fits p len t (h .held))
 
       new : (j : ℕ) → (leb 1 j && eqb (s .numbers .next) numberMax) ≡ false → Each (Piece x (t .maximum) (o + len)) (cut x true j (t .maximum) o len) → Each Q (cut x true j (t .maximum) o len)
       new zero e a = tt

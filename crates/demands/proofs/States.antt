@@ -67,6 +67,7 @@ kept room s v k =
       seen = chunked-seen room s k;
       unstarted = k .unstarted;
       distinct = k .distinct;
+      maxima = k .maxima;
       unopened = λ id e.
           let is : Chunk → Bool = λ c. eqb (c .message .stream) id in
           let P : Chunk → Type 0 = λ c. is c ≡ false in

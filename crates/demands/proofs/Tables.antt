@@ -20,20 +20,21 @@ use Rattle.model.specs.Messages.{isUnordered, ssnAfter, saturated, countedBy, w
 use Rattle.model.specs.Rings.{ssnBefore, dropSsn}
 use Rattle.model.specs.Calls.{Call}
 use Rattle.demands.specs.Words.{Each}
-use Rattle.demands.specs.States.{Distinct}
+use Rattle.demands.specs.States.{Sized, Distinct}
 use Rattle.demands.specs.Numbers.{Typed, ReliabilityFits, StreamFits}
 use Rattle.demands.proofs.Each.{each-append}
 use Rattle.demands.proofs.Basic.{if-case, bool-case, and-l, and-r}
 
--- what a call k does to the table: streams that fit still do, none stands twice, the room is kept, and open streams stay open
+-- what a call k does to the table: streams that fit still do, each maximum is still at least 1, none stands twice, the room is kept, and open streams stay open
 pub record Table (room : Room) (k : Call) (l l′ : List Stream) : Type 0 where
   pub fits : Typed k → Each StreamFits l → Each StreamFits l′
+  pub sized : Each Sized l → Each Sized l′
   pub distinct : Distinct l → Distinct l′
   pub within : length l ≤ room .streams → length l′ ≤ room .streams
   pub still : (id : ℕ) (t : Stream) → find id l ≡ some t → (t′ : Stream) × (find id l′ ≡ some t′)
 
 pub table-same : (room : Room) (k : Call) (l : List Stream) → Table room k l l
-table-same room k l = record { fits = λ _ h. h; distinct = λ h. h; within = λ h. h; still = λ id t e. (t, e) }
+table-same room k l = record { fits = λ _ h. h; sized = λ h. h; distinct = λ h. h; within = λ h. h; still = λ id t e. (t, e) }
 
 -- ---- finding
 
@@ -97,10 +98,11 @@ distinct-put t (x ∷ l) d =
     (λ _ h. (subst (λ (n : ℕ). find n l ≡ none) (eqb-true (x .identifier) (t .identifier) h) (d .0), d .1))
     (λ _ _. (find-none-put (x .identifier) t l (d .0), distinct-put t l (d .1))) refl
 
-pub table-put : (room : Room) (k : Call) (id : ℕ) (l : List Stream) (t t′ : Stream) → find id l ≡ some t → (Typed k → StreamFits t → StreamFits t′) → Table room k l (put t′ l)
-table-put room k id l t t′ e f =
+pub table-put : (room : Room) (k : Call) (id : ℕ) (l : List Stream) (t t′ : Stream) → find id l ≡ some t → t .maximum ≡ t′ .maximum → (Typed k → StreamFits t → StreamFits t′) → Table room k l (put t′ l)
+table-put room k id l t t′ e m f =
     record {
       fits = λ h a. each-put StreamFits t′ l (f h (each-find StreamFits id l t e a)) a;
+      sized = λ a. each-put Sized t′ l (rw m at (each-find Sized id l t e a)) a;
       distinct = distinct-put t′ l;
       within = λ h. rw (length-put t′ l) h;
       still = λ i x q. find-some-put i t′ l x q;
@@ -147,6 +149,7 @@ table-open room k id m l i h e n =
         },
         tt,
       );
+      sized = λ a. each-append Sized l (opened id m ∷ []) a (leb-true 1 m (and-l (leb 1 m) (leb m payloadMax) b), tt);
       distinct = λ d. distinct-snoc l (opened id m) d e;
       within = λ _. rw (length-append l (opened id m ∷ [])) (omega (arith, leb-false (room .streams) (length l) n));
       still = λ j x q. (x, find-snoc j l (opened id m) x q);
@@ -203,4 +206,4 @@ table-drop room k id l = go (find id l) refl
   where
     go : (x : Option Stream) → find id l ≡ x → Table room k l (dropSsn x l)
     go none e = table-same room k l
-    go (some t) e = table-put room k id l t _ e (λ _. dropped-fits t)
+    go (some t) e = table-put room k id l t _ e refl (λ _. dropped-fits t)

@@ -114,11 +114,11 @@ module _ (room : Room) (k : Call) (s : Sender) where
           if-case (λ r. Only (told toDo r)) (leb (room .streams) (length (s .streams))) (λ _. unchanged _ refl)
           (λ n. streams-only _ _ refl (table-open room k id m (s .streams) i h e n))
 
-  changed-does : (id : ℕ) (f : Stream → Stream) → ((t : Stream) → (Typed k → StreamFits t → StreamFits (f t))) → Only (told toDo (changed (find id (s .streams)) f s))
-  changed-does id f h = go (find id (s .streams)) refl
+  changed-does : (id : ℕ) (f : Stream → Stream) → ((t : Stream) → t .maximum ≡ f t .maximum) → ((t : Stream) → (Typed k → StreamFits t → StreamFits (f t))) → Only (told toDo (changed (find id (s .streams)) f s))
+  changed-does id f m h = go (find id (s .streams)) refl
     where
       go : (x : Option Stream) → find id (s .streams) ≡ x → Only (told toDo (changed x f s))
-      go (some t) e = streams-only _ _ refl (table-put room k id (s .streams) t (f t) e (h t))
+      go (some t) e = streams-only _ _ refl (table-put room k id (s .streams) t (f t) e (m t) (h t))
       go none e = unchanged _ refl
 
   release-does : (id : ℕ) (r : ℤ) → Only (told toRelease (release id r s))
@@ -126,7 +126,7 @@ module _ (room : Room) (k : Call) (s : Sender) where
   release-does id r = go (find id (s .streams)) refl
     where
       go : (x : Option Stream) → find id (s .streams) ≡ x → Only (told toRelease (releasing x r s))
-      go (some t) e = streams-only _ _ refl (table-put room k id (s .streams) t _ e (λ _. reduced-fits r t))
+      go (some t) e = streams-only _ _ refl (table-put room k id (s .streams) t _ e refl (λ _. reduced-fits r t))
       go none e = unchanged _ refl
 
   write-does : (id p o l : ℕ) → (Typed k → p < 2 ^ 32)
@@ -217,7 +217,7 @@ module _ (room : Room) (k : Call) (s : Sender) where
       go (c ∷ f) e = if-case (λ r. Only (told toFind r)) (eqb t (s .flight .oldest)) (λ _. pops c f e) (λ _. unchanged _ refl)
 
 -- a question's answer yields nothing
-ask-quiet : (q : Query) (s : Sender) → Quiet (answer q s)
+pub ask-quiet : (q : Query) (s : Sender) → Quiet (answer q s)
 ask-quiet (Get t) s = refl
 ask-quiet (IsAbandoned t) s = refl
 ask-quiet PeekPending s = refl
@@ -241,9 +241,9 @@ pub does : (room : Room) (k : Call) (s : Sender) → Does room k s (step room k 
 unfolding setReliability setLow setHigh markAll
 does room (Open id m) s = open-does room (Open id m) s id m (λ h. h)
 does room (SetReliability id u k v) s =
-    changed-does room (SetReliability id u k v) s id _ (λ t ty. delivering-fits u (record { kind = k; value = v }) t (record { kind = ty .0; value = ty .1 }))
-does room (SetLow id x) s = changed-does room (SetLow id x) s id _ (λ t ty p. thresholds-fit x (t .high) t ty (p .high) p)
-does room (SetHigh id x) s = changed-does room (SetHigh id x) s id _ (λ t ty p. thresholds-fit (t .low) x t (p .low) ty p)
+    changed-does room (SetReliability id u k v) s id _ (λ _. refl) (λ t ty. delivering-fits u (record { kind = k; value = v }) t (record { kind = ty .0; value = ty .1 }))
+does room (SetLow id x) s = changed-does room (SetLow id x) s id _ (λ _. refl) (λ t ty p. thresholds-fit x (t .high) t ty (p .high) p)
+does room (SetHigh id x) s = changed-does room (SetHigh id x) s id _ (λ _. refl) (λ t ty p. thresholds-fit (t .low) x t (p .low) ty p)
 does room (Write id p o l) s = write-does room (Write id p o l) s id p o l (λ h. h)
 does room (Release id r) s = release-does room (Release id r) s id r
 does room (StartLifetimes now) s = start-does room (StartLifetimes now) s now

@@ -89,6 +89,10 @@ dropRun n (c ∷ l) = if isOf n c then dropRun n l else (c ∷ l)
 abbrev pub Has : (number : ℕ) → List Chunk → Type 0
 Has n l = keep (isOf n) l ≢ []
 
+-- a chunk of the stream has room for a byte
+abbrev pub Sized : Stream → Type 0
+Sized t = 1 ≤ t .maximum
+
 -- no identifier stands twice
 abbrev pub Distinct : List Stream → Type 0
 Distinct [] = Unit {0}
@@ -125,6 +129,8 @@ pub record Kept (room : Room) (s : Sender) : Type 0 where
   pub seen : s .pending .unordered ≡ [] → s .pending .ordered ≡ [] → s .numbers .unstarted ≡ s .numbers .next
   pub unstarted : s .numbers .unstarted ≤ s .numbers .next
   pub distinct : Distinct (s .streams)
+  -- every open stream's maximum is at least 1
+  pub maxima : Each Sized (s .streams)
   -- the two questions whether a stream has chunks answer no for a stream that is not open
   pub unopened : (id : ℕ) → find id (s .streams) ≡ none
       → (answer (PendingContainsStream id) s ≡ yesNo false) × (answer (ContainsStream id) s ≡ yesNo false)

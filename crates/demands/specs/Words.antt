@@ -1,6 +1,7 @@
 -- The words of the claims: what is still to come of the message under way, what is ahead of a waiting one, what a call removes.
 use Prim.Native.Nat.{ℕ, suc, _+_, _<_}
-use mathlib.Core.Path.{_≡_}
+use native.Mathlib.Omega.{arith}
+use mathlib.Core.Path.{_≡_, refl}
 use mathlib.Core.Logic.{_≢_, _⊎_}
 use mathlib.Core.Bool.{Bool, true, false, _&&_}
 use mathlib.Core.Option.{Option, none, some}
@@ -38,6 +39,7 @@ use Rattle.model.specs.Calls.{
   MarkAll,
   Ask,
   step,
+  run,
 }
 
 -- ---- fragments
@@ -156,8 +158,24 @@ expiresMessage (Pop t) s = none
 expiresMessage MarkAll s = none
 expiresMessage (Ask q) s = none
 
--- ---- a condition on each call and the state that it meets
+-- ---- each call and the state that it meets
 
+-- the sum of a number of each
+abbrev pub summed : Room → (Call → Sender → ℕ) → List Call → Sender → ℕ
+summed room f [] s = 0
+summed room f (k ∷ ks) s = f k s + summed room f ks (step room k s .after)
+
+-- of no calls it is 0
+pub summed-none : (room : Room) (f : Call → Sender → ℕ) (s : Sender) → summed room f [] s ≡ 0
+summed-none room f s = refl
+
+-- of calls and then others it is that of the first and, from the state behind them, that of the others
+pub summed-joined : (room : Room) (f : Call → Sender → ℕ) (ks js : List Call) (s : Sender)
+    → summed room f (ks ++ js) s ≡ summed room f ks s + summed room f js (run room ks s)
+summed-joined room f [] js s = omega arith
+summed-joined room f (k ∷ ks) js s = omega (arith, summed-joined room f ks js (step room k s .after))
+
+-- a condition on each
 abbrev pub Throughout : Room → (Call → Sender → Type 0) → List Call → Sender → Type 0
 Throughout room P [] s = Unit
 Throughout room P (k ∷ ks) s = P k s × Throughout room P ks (step room k s .after)
