@@ -10,10 +10,13 @@ use lib.Ieee.{Float, up, down, binary64, mul, toUnsigned}
 use lib.Ieee.Exact.{HasValue}
 use lib.Ieee.Fits.{down-pos}
 use lib.Ieee.Nearest.{div-same}
-use Rattle.rto.specs.Rto.{f64, gap, fourTimes, clamp, fresh}
-use Rattle.rto.specs.Calls.{measure, called, after}
+use Rattle.rto.specs.declared.RtoManager.{RtoManager}
+use Rattle.rto.specs.declared.Measured.{Measured}
+use Rattle.rto.specs.Rto.{f64, gap, fourTimes, clamp, sampled, fresh}
+use Rattle.rto.specs.Calls.{measure, ofMeasured, called, after}
 use Rattle.rto.specs.Exact.{places, none, followed, exactly}
-use Rattle.rto.specs.Rfc.{RfcRttvar, RfcSrtt, RfcRto}
+use Rattle.rto.specs.Rfc.{RfcRttvar, RfcSrtt, Taken, RfcSrttAfter, RfcRto}
+use Rattle.rto.proofs.Cases.{taken, first, next}
 use Rattle.rto.proofs.Float.{whole, plain, mul-at, dyadic}
 use Rattle.rto.proofs.Runs.{quadruple, from-fresh, measured-sample}
 use Rattle.rto.proofs.Exact.{Held, blank, begins, kept, written}
@@ -36,6 +39,19 @@ rfc-rttvar = (
 
 pub rfc-srtt : RfcSrtt
 rfc-srtt s r = omega arith
+
+-- ---- the state after a measurement
+
+-- what a measurement that is taken leaves is the sample's
+left : (t : RtoManager) (r : ℕ) → Taken t r → called t (measure r) ≡ sampled t r
+left t r h = ap (λ (m : Measured). ofMeasured t m .state) (taken t r (h .within) (h .allowed))
+
+pub rfc-srtt-after : RfcSrttAfter
+rfc-srtt-after =
+    record {
+      first = λ t r h e. ap (λ (u : RtoManager). u .srtt) (left t r h ∙ first t r e);
+      later = λ t r h e. ap (λ (u : RtoManager). u .srtt) (left t r h ∙ next t r e) ∙ rfc-srtt (t .srtt) r;
+    }
 
 -- ---- the RTO
 -- the cast of a value f / c that is in range

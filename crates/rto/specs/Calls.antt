@@ -1,8 +1,10 @@
 -- What the caller hears of each call, by document 01's numbers, and what a run of calls leaves.
 use Prim.Native.Nat.{ℕ}
 use mathlib.Core.Path.{_≡_}
+use mathlib.Core.Logic.{_⊎_}
 use mathlib.Core.Bool.{Bool}
 use mathlib.Core.List.{List, [], _∷_}
+use Rattle.limits.specs.Refusals.{beyondLimit, badBounds}
 use Rattle.rto.specs.declared.RtoManager.{RtoManager}
 use Rattle.rto.specs.declared.Made.{Made}
 use Rattle.rto.specs.declared.Made.the-variants.{Ready, Refused as Made-Refused}
@@ -71,3 +73,9 @@ after t (c ∷ cs) = after (called t c) cs
 -- Claim: a call that is refused gives its number only, and leaves the state as it was.
 abbrev pub RefusedKeeps : Type 0
 RefusedKeeps = (t : RtoManager) (c : Call) → (outcome t c .number ≡ 0 → ⊥) → outcome t c ≡ refused (outcome t c .number) t
+
+-- Claim: a refusal is one of those that 01 lists: creation 1 and 2, measuring and `set_rto` 1; the other calls answer none.
+pub record RefusalsAreListed : Type 0 where
+  pub creation : (initial lo hi n : ℕ) → newOf initial lo hi ≡ Made-Refused n → (n ≡ beyondLimit) ⊎ (n ≡ badBounds)
+  pub measuring : (t : RtoManager) (r n : ℕ) → measuredOf t r ≡ Measured-Refused n → n ≡ beyondLimit
+  pub setting : (t : RtoManager) (x : ℕ) (b : Bool) (n : ℕ) → setOf t x b ≡ Set-Refused n → n ≡ beyondLimit

@@ -3,6 +3,7 @@ use Prim.Native.Nat.{ℕ, _+_, _-_, _*_, _/_, _^_, _≤_}
 use mathlib.Core.Path.{_≡_}
 use mathlib.Core.Bool.{false}
 use mathlib.Core.List.{List}
+use Rattle.limits.specs.Limits.{settingMax}
 use Rattle.rto.specs.declared.RtoManager.{RtoManager}
 use Rattle.rto.specs.Rto.{gap, nextSrtt, clamp, fresh}
 use Rattle.rto.specs.Calls.{Call, measure, called, after}
@@ -90,6 +91,16 @@ RfcRttvar = ((r : ℕ) → Same (fraction (begun r)) (rfcFirstVar r)) × ((s r :
 -- Claim: a later measurement leaves the whole part of the RFC's SRTT.
 abbrev pub RfcSrtt : Type 0
 RfcSrtt = (s r : ℕ) → nextSrtt s r ≡ floor (rfcNextSrtt (whole s) r)
+
+-- a measurement R is taken: it is within its limit, and no_update is not set
+pub record Taken (t : RtoManager) (r : ℕ) : Type 0 where
+  pub within : r ≤ settingMax
+  pub allowed : t .«no_update» ≡ false
+
+-- Claim: the state after a first measurement has SRTT = R, and the state after a later one the whole part of the RFC's SRTT.
+pub record RfcSrttAfter : Type 0 where
+  pub first : (t : RtoManager) (r : ℕ) → Taken t r → t .srtt ≡ 0 → called t (measure r) .srtt ≡ r
+  pub later : (t : RtoManager) (r : ℕ) → Taken t r → (t .srtt ≡ 0 → ⊥) → called t (measure r) .srtt ≡ floor (rfcNextSrtt (whole (t .srtt)) r)
 
 -- Claim: if every R is at most 60,000, the RTO right after a first measurement and each of the next 18 is the whole part of the RFC's, clamped.
 abbrev pub RfcRto : Type 0

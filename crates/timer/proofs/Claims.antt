@@ -1,6 +1,7 @@
 -- The claims of `specs/Claims.antt`: each call keeps the limits, and a refused one keeps the table, by the tests that part its answers. Assumes nothing.
 use Prim.Native.Nat.{ℕ, zero, suc, _+_, _≤_, _<_}
 use mathlib.Core.Path.{_≡_, refl, sym, ap, subst}
+use mathlib.Core.Logic.{_⊎_, inl, inr}
 use mathlib.Core.List.{List, [], _∷_}
 use mathlib.Core.Bool.{Bool, true, false, cond, not}
 use native.Mathlib.Omega.{arith}
@@ -18,6 +19,8 @@ use Rattle.timer.specs.declared.Maximum.{Maximum}
 use Rattle.timer.specs.declared.Maximum.the-variants.{Unlimited}
 use Rattle.timer.specs.declared.Entry.{Entry}
 use Rattle.timer.specs.declared.TimerTable.{TimerTable}
+use Rattle.timer.specs.declared.Answer.the-variants.{Refused}
+use Rattle.timer.specs.declared.Expiry.the-variants.{Refused as Denied}
 use Rattle.timer.specs.declared.Changed.{Changed}
 use Rattle.timer.specs.declared.Checked.{Checked}
 use Rattle.limits.specs.Moments.{passed, ahead, beyond}
@@ -25,7 +28,7 @@ use Rattle.timer.specs.Entries.{place, idleEntry, failsAt}
 use Rattle.timer.specs.Timers.{entryOf, withEntry, withDeadline, withCount, withSuppression, waitOf}
 use Rattle.timer.specs.Calls.{numberOf, expiryNumber, countOf, done, refused, told, denied, guarded, maximumOf, fresh, newOf, getOf, startable, startedOf, expiryOf, isExpiredOf}
 use Rattle.timer.specs.Claims.{Call, set, get, nextTimeout, start, restartIfStale, stop, resetRetrans, suppressErrorCount, isExpired}
-use Rattle.timer.specs.Claims.{called, after, latest, Within, PlacesAgree, StaysWithin, RefusalKeeps, CountIsKept}
+use Rattle.timer.specs.Claims.{called, after, latest, Within, PlacesAgree, StaysWithin, RefusalKeeps, RefusalsAreListed, CountIsKept}
 use Rattle.timer.proofs.Laws.{place-below, in-range, wait-below}
 
 pub places-agree : PlacesAgree
@@ -184,6 +187,29 @@ refusal-keeps t (resetRetrans timer) = λ h. absurd (h refl)
 refusal-keeps t (suppressErrorCount timer) = λ h. absurd (h refl)
 refusal-keeps t (isExpired timer clock) =
     expired-cases t timer (λ r. (expiryNumber (r .answer) ≡ 0 → ⊥) → r .table ≡ t) clock (λ h. refl) (λ h. refl) (λ h. absurd (h refl)) (λ h. refl) (λ k h. absurd (h refl))
+
+listed-guarded : (t u : TimerTable) (allowed : Bool) (n : ℕ) → guarded allowed u t .answer ≡ Refused n → n ≡ beyondLimit
+listed-guarded t u allowed n =
+    guarded-cases (λ r. r .answer ≡ Refused n → n ≡ beyondLimit) allowed u t (λ _ e. let z : _≡_ {A = ℕ} 0 1 = cc in absurd (omega arith)) (λ e. cc)
+
+listed-expiry : (t : TimerTable) (timer : Timer) (clock n : ℕ) → isExpiredOf t timer clock .answer ≡ Denied n → (n ≡ beyondLimit) ⊎ (n ≡ countFull)
+listed-expiry t timer clock n =
+    expired-cases t timer (λ r. r .answer ≡ Denied n → (n ≡ beyondLimit) ⊎ (n ≡ countFull)) clock
+    (λ e. inl cc)
+    (λ e. let z : _≡_ {A = ℕ} 0 1 = cc in absurd (omega arith))
+    (λ e. let z : _≡_ {A = ℕ} 0 1 = cc in absurd (omega arith))
+    (λ e. inr cc)
+    (λ _ e. let z : _≡_ {A = ℕ} 0 1 = cc in absurd (omega arith))
+
+pub refusals-are-listed : RefusalsAreListed
+refusals-are-listed =
+    record {
+      creation = λ maxInit maxData rtoMax. listed-guarded (fresh Unlimited Unlimited 0) (fresh maxInit maxData rtoMax) (leb rtoMax settingMax);
+      setting = λ t timer d. listed-guarded t (withDeadline t timer d) (not (beyond clockMax d));
+      starting = λ t timer now interval. listed-guarded t (startedOf t timer now interval) (startable now interval);
+      restarting = λ t timer now interval. listed-guarded t (cond (ahead now (getOf t timer)) t (startedOf t timer now interval)) (startable now interval);
+      expiring = listed-expiry;
+    }
 
 pub count-is-kept : CountIsKept
 count-is-kept t timer clock six =

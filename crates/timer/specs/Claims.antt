@@ -1,16 +1,20 @@
 -- What holds of the timers over any calls; `proofs/Claims.antt` proves each claim.
 use Prim.Native.Nat.{ℕ, _+_, _≤_}
 use mathlib.Core.Path.{_≡_}
+use mathlib.Core.Logic.{_⊎_}
 use mathlib.Core.List.{List, [], _∷_}
 use mathlib.Core.Bool.{false}
 use lib.ListN.{length}
 use Rattle.limits.specs.Limits.{clockMax, settingMax, countMax}
+use Rattle.limits.specs.Refusals.{beyondLimit, countFull}
 use Rattle.timer.specs.declared.Timer.{Timer}
 use Rattle.timer.specs.declared.Found.the-variants.{Value}
 use Rattle.limits.specs.declared.Moment.{Moment}
 use Rattle.timer.specs.declared.Maximum.{Maximum}
 use Rattle.timer.specs.declared.Entry.{Entry}
 use Rattle.timer.specs.declared.TimerTable.{TimerTable}
+use Rattle.timer.specs.declared.Answer.the-variants.{Refused}
+use Rattle.timer.specs.declared.Expiry.the-variants.{Refused as Denied}
 use Rattle.limits.specs.Moments.{beyond}
 use Rattle.timer.specs.Entries.{place, order, timerAt}
 use Rattle.timer.specs.Timers.{entryOf}
@@ -79,6 +83,14 @@ StaysWithin =
 -- a refused call leaves the table as it was
 abbrev pub RefusalKeeps : Type 0
 RefusalKeeps = (t : TimerTable) (call : Call) → (heard t call ≡ 0 → ⊥) → called t call ≡ t
+
+-- a refusal is one of those that 01 lists: creation, setting, start and restart 1, an expiry 1 and 12; the other calls answer none
+pub record RefusalsAreListed : Type 0 where
+  pub creation : (maxInit maxData : Maximum) (rtoMax n : ℕ) → newOf maxInit maxData rtoMax .answer ≡ Refused n → n ≡ beyondLimit
+  pub setting : (t : TimerTable) (timer : Timer) (d : Moment) (n : ℕ) → setOf t timer d .answer ≡ Refused n → n ≡ beyondLimit
+  pub starting : (t : TimerTable) (timer : Timer) (now interval n : ℕ) → startOf t timer now interval .answer ≡ Refused n → n ≡ beyondLimit
+  pub restarting : (t : TimerTable) (timer : Timer) (now interval n : ℕ) → restartIfStaleOf t timer now interval .answer ≡ Refused n → n ≡ beyondLimit
+  pub expiring : (t : TimerTable) (timer : Timer) (clock n : ℕ) → isExpiredOf t timer clock .answer ≡ Denied n → (n ≡ beyondLimit) ⊎ (n ≡ countFull)
 
 -- the count that an expiry tells is the one that the table then holds
 abbrev pub CountIsKept : Type 0
