@@ -1,2 +1,3 @@
 -- What is proved of the definitions alone.
 pub mod Reading
+pub mod Rows
