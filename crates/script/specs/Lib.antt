@@ -6,3 +6,4 @@ pub mod Commands
 pub mod Meaning
 pub mod Lines
 pub mod Claims
+pub mod Shown
