@@ -1,11 +1,11 @@
 // What the calls of the timers and of the estimator answer in a script, written into the buffer of answers.
-use commands::RtoCall;
-use commands::TimerCall;
 use limits::Moment;
 use rto::Made;
 use rto::Measured;
 use rto::RtoManager;
 use rto::Set;
+use script::commands::RtoCall;
+use script::commands::TimerCall;
 use timer::Answer;
 use timer::Changed;
 use timer::Expiry;

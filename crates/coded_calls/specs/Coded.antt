@@ -7,6 +7,8 @@ use lib.IntN.{ℤ, pos, negsuc}
 use lib.Dec.{ltb, eqb}
 use Rattle.model.specs.Lists.{if_then_else_}
 use Rattle.model.specs.Calls as Model
+use Rattle.calls.specs.declared.Call.{Call}
+use Rattle.calls.specs.declared.Query.{Query}
 use Rattle.calls.specs.Meant.{meant}
 use Rattle.coded_calls.specs.declared.Coded.{Coded}
 
@@ -15,48 +17,51 @@ abbrev pub amountOf : ℕ → (negative : Bool) → ℤ
 amountOf x negative = if negative then negsuc (x % 2 ^ 63) else pos (x % 2 ^ 63)
 
 -- rows 0 to 13; from the last on all mark all
-abbrev pub change : (row a b c d : ℕ) → Model.Call
+abbrev pub change : (row a b c d : ℕ) → Call
 change row a b c d =
-    getD (Model.Open (a % 2 ^ 16) (b % 2 ^ 32)
-    ∷ Model.SetReliability (a % 2 ^ 16) (eqb (b % 2) 1) (c % 2 ^ 8) (d % 2 ^ 32)
-    ∷ Model.SetLow (a % 2 ^ 16) b
-    ∷ Model.SetHigh (a % 2 ^ 16) b
-    ∷ Model.Write (a % 2 ^ 16) (b % 2 ^ 32) c d
-    ∷ Model.Release (a % 2 ^ 16) (amountOf b (eqb (c % 2) 1))
-    ∷ Model.StartLifetimes a
-    ∷ Model.Send a
-    ∷ Model.ExpirePending a
-    ∷ Model.ExpirePendingTail a
-    ∷ Model.Abandon (a % 2 ^ 32)
-    ∷ Model.Acknowledge (a % 2 ^ 32)
-    ∷ Model.Pop (a % 2 ^ 32)
-    ∷ []) row Model.MarkAll
+    getD (Call.Open (a % 2 ^ 16) (b % 2 ^ 32)
+    ∷ Call.SetReliability (a % 2 ^ 16) (eqb (b % 2) 1) (c % 2 ^ 8) (d % 2 ^ 32)
+    ∷ Call.SetLow (a % 2 ^ 16) b
+    ∷ Call.SetHigh (a % 2 ^ 16) b
+    ∷ Call.Write (a % 2 ^ 16) (b % 2 ^ 32) c d
+    ∷ Call.Release (a % 2 ^ 16) (amountOf b (eqb (c % 2) 1))
+    ∷ Call.StartLifetimes a
+    ∷ Call.Send a
+    ∷ Call.ExpirePending a
+    ∷ Call.ExpirePendingTail a
+    ∷ Call.Abandon (a % 2 ^ 32)
+    ∷ Call.Acknowledge (a % 2 ^ 32)
+    ∷ Call.Pop (a % 2 ^ 32)
+    ∷ []) row Call.MarkAll
 
 -- rows 14 to 29
-abbrev pub question : (row a : ℕ) → Model.Query
+abbrev pub question : (row a : ℕ) → Query
 question row a =
-    getD (Model.Get (a % 2 ^ 32)
-    ∷ Model.IsAbandoned (a % 2 ^ 32)
-    ∷ Model.PeekPending
-    ∷ Model.NextMessage
-    ∷ Model.NextTsn
-    ∷ Model.PendingLength
-    ∷ Model.PendingBytes
-    ∷ Model.InflightLength
-    ∷ Model.InflightBytes
-    ∷ Model.EarliestOutstanding
-    ∷ Model.PendingContainsStream (a % 2 ^ 16)
-    ∷ Model.ContainsStream (a % 2 ^ 16)
-    ∷ Model.BufferedAmount (a % 2 ^ 16)
-    ∷ Model.LowThreshold (a % 2 ^ 16)
-    ∷ Model.HighThreshold (a % 2 ^ 16)
-    ∷ []) row (Model.Statistics (a % 2 ^ 16))
+    getD (Query.Get (a % 2 ^ 32)
+    ∷ Query.IsAbandoned (a % 2 ^ 32)
+    ∷ Query.PeekPending
+    ∷ Query.NextMessage
+    ∷ Query.NextTsn
+    ∷ Query.PendingLength
+    ∷ Query.PendingBytes
+    ∷ Query.InflightLength
+    ∷ Query.InflightBytes
+    ∷ Query.EarliestOutstanding
+    ∷ Query.PendingContainsStream (a % 2 ^ 16)
+    ∷ Query.ContainsStream (a % 2 ^ 16)
+    ∷ Query.BufferedAmount (a % 2 ^ 16)
+    ∷ Query.LowThreshold (a % 2 ^ 16)
+    ∷ Query.HighThreshold (a % 2 ^ 16)
+    ∷ []) row (Query.Statistics (a % 2 ^ 16))
+
+-- rows 0 to 29, as a value of the code; `meant` says which of the model's calls that is
+abbrev pub plainOf : (row a b c d : ℕ) → Call
+plainOf row a b c d = if ltb row 14 then change row a b c d else Call.Ask (question (row - 14) a)
 
 -- from row 30 on: what has expired in flight, in a list of so much room, at most 256
 abbrev pub callIn : (row a b c d : ℕ) → Model.Call
 callIn row a b c d =
-    if ltb row 14 then change row a b c d
-    else if ltb row 30 then Model.Ask (question (row - 14) a)
+    if ltb row 30 then meant (plainOf row a b c d)
     else Model.Ask (Model.ExpiredInflight a (min b 256))
 
 abbrev pub callOf : (words : List ℕ) → Model.Call

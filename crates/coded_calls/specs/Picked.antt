@@ -14,7 +14,10 @@ use mir.Val.{SFits, toZ, ofZ}
 use mir.Facts.{toZ-pos, toZ-ofZ}
 use Rattle.model.specs.Calls as Model
 use Rattle.model.specs.Lists.{if_then_else_}
-use Rattle.coded_calls.specs.Coded.{amountOf, change, question, callOf}
+use Rattle.calls.specs.declared.Call.{Call}
+use Rattle.calls.specs.declared.Query.{Query}
+use Rattle.calls.specs.Meant.{meant}
+use Rattle.coded_calls.specs.Coded.{amountOf, change, question, plainOf, callOf}
 
 -- -1 - n
 below : (n : ℕ) → negsuc 0 -ℤ pos n ≡ negsuc n
@@ -39,7 +42,7 @@ signed-above x negative e = let h : x % 2 ^ 63 < 2 ^ 63 = omega arith in toZ-pos
 
 -- ---- the row of a number
 
-pub row-change : {x : Model.Call} (n row a b c d : ℕ) → row ≡ n → x ≡ change n a b c d → x ≡ change row a b c d
+pub row-change : {x : Call} (n row a b c d : ℕ) → row ≡ n → x ≡ change n a b c d → x ≡ change row a b c d
 row-change n row a b c d e q = q ∙ ap (λ (k : ℕ). change k a b c d) (sym e)
 
 -- a number that is none of the first n is not below n
@@ -52,18 +55,18 @@ passed zero row p = omega arith
 passed (suc n) row p = let l = passed n row (p .0) in let h = p .1 in omega (arith, l, h)
 
 -- behind the last of the others
-pub row-last : (row a b c d : ℕ) → 13 ≤ row → Model.MarkAll ≡ change row a b c d
+pub row-last : (row a b c d : ℕ) → 13 ≤ row → Call.MarkAll ≡ change row a b c d
 row-last row a b c d h =
     let e : row ≡ suc (suc (suc (suc (suc (suc (suc (suc (suc (suc (suc (suc (suc (row - 13))))))))))))) = omega arith in
     ap (λ (k : ℕ). change k a b c d) (sym e)
 
-pub row-question : {x : Model.Query} (n row a : ℕ) → row ≡ n → x ≡ question n a → x ≡ question row a
+pub row-question : {x : Query} (n row a : ℕ) → row ≡ n → x ≡ question n a → x ≡ question row a
 row-question n row a e q = q ∙ ap (λ (k : ℕ). question k a) (sym e)
 
-pub row-statistics : (row a id : ℕ) → 15 ≤ row → id ≡ a % 2 ^ 16 → Model.Statistics id ≡ question row a
+pub row-statistics : (row a id : ℕ) → 15 ≤ row → id ≡ a % 2 ^ 16 → Query.Statistics id ≡ question row a
 row-statistics row a id h q =
     let e : row ≡ suc (suc (suc (suc (suc (suc (suc (suc (suc (suc (suc (suc (suc (suc (suc (row - 15))))))))))))))) = omega arith in
-    ap Model.Statistics q ∙ ap (λ (k : ℕ). question k a) (sym e)
+    ap Query.Statistics q ∙ ap (λ (k : ℕ). question k a) (sym e)
 
 -- ---- the words of a call
 
@@ -73,19 +76,23 @@ getD-past [] i h = refl
 getD-past (x ∷ w) zero h = omega arith
 getD-past (x ∷ w) (suc i) h = getD-past w i (omega arith)
 
+-- a change, or a question behind it
+pub is-change : {x : Call} (row a b c d : ℕ) → row < 14 → x ≡ change row a b c d → x ≡ plainOf row a b c d
+is-change row a b c d h q = rw (lt-ltb row 14 h) q
+
+pub is-question : {x : Query} (row a b c d : ℕ) → 14 ≤ row → x ≡ question (row - 14) a → Call.Ask x ≡ plainOf row a b c d
+is-question row a b c d h q = rw (le-ltb row 14 h) (ap Call.Ask q)
+
 -- the same of the words themselves
-pub all-words : {row row′ a a′ b b′ c c′ d d′ : ℕ} → row ≡ row′ → a ≡ a′ → b ≡ b′ → c ≡ c′ → d ≡ d′ → change row a b c d ≡ change row′ a′ b′ c′ d′
-all-words p q r s t = λ i. change (p i) (q i) (r i) (s i) (t i)
+pub all-words : {row row′ a a′ b b′ c c′ d d′ : ℕ} → row ≡ row′ → a ≡ a′ → b ≡ b′ → c ≡ c′ → d ≡ d′ → plainOf row a b c d ≡ plainOf row′ a′ b′ c′ d′
+all-words p q r s t = λ i. plainOf (p i) (q i) (r i) (s i) (t i)
 
 module _ (w : List ℕ) where
   abbrev row : ℕ
   row = getD w 0 0
 
-  pub is-change : {x : Model.Call} → row < 14 → x ≡ change row (getD w 1 0) (getD w 2 0) (getD w 3 0) (getD w 4 0) → x ≡ callOf w
-  is-change h q = rw (lt-ltb row 14 h) q
-
-  pub is-question : {x : Model.Query} → 14 ≤ row → row < 30 → x ≡ question (row - 14) (getD w 1 0) → Model.Ask x ≡ callOf w
-  is-question l h q = rw (le-ltb row 14 l) (rw (lt-ltb row 30 h) (ap Model.Ask q))
+  pub is-plain : {x : Call} → row < 30 → x ≡ plainOf row (getD w 1 0) (getD w 2 0) (getD w 3 0) (getD w 4 0) → meant x ≡ callOf w
+  is-plain h q = rw (lt-ltb row 30 h) (ap meant q)
 
   pub is-listing : (n : ℕ) → 30 ≤ row → n ≡ min (getD w 2 0) 256 → Model.Ask (Model.ExpiredInflight (getD w 1 0) n) ≡ callOf w
-  is-listing n l q = rw (le-ltb row 14 (omega arith)) (rw (le-ltb row 30 l) (ap (λ (k : ℕ). Model.Ask (Model.ExpiredInflight (getD w 1 0) k)) q))
+  is-listing n l q = rw (le-ltb row 30 l) (ap (λ (k : ℕ). Model.Ask (Model.ExpiredInflight (getD w 1 0) k)) q)

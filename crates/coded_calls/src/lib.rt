@@ -8,8 +8,7 @@ use calls::Query;
 ghost use mathlib.Core.Path.{_≡_};
 ghost use Prim.Native.Nat.{_%_};
 ghost use lib.ListN.{getD};
-ghost use Rattle.calls.specs.Meant.{asked, meant};
-ghost use Rattle.coded_calls.specs.Coded.{amountOf, question, change, coded, Roomy, callOf};
+ghost use Rattle.coded_calls.specs.Coded.{amountOf, question, change, plainOf, coded, Roomy, callOf};
 
 // The list of expired TSNs needs a list that is lent with it, so it is apart.
 pub enum Coded {
@@ -47,7 +46,7 @@ fn signed(word: u64, negative: bool) -> i64
 
 // Rows 0 to 13.
 fn change(row: u64, a: u64, b: u64, c: u64, d: u64) -> Call
-    ensures { λ r. ⌜ meant r ≡ change row a b c d ⌝ }
+    ensures { λ r. ⌜ r ≡ change row a b c d ⌝ }
 {
     let identifier = low16(a);
     let tsn = low32(a);
@@ -93,7 +92,7 @@ fn change(row: u64, a: u64, b: u64, c: u64, d: u64) -> Call
 
 // Rows 14 to 29, counted from 0.
 fn question(row: u64, a: u64) -> Query
-    ensures { λ r. ⌜ asked r ≡ question row a ⌝ }
+    ensures { λ r. ⌜ r ≡ question row a ⌝ }
 {
     let identifier = low16(a);
     let tsn = low32(a);
@@ -129,6 +128,16 @@ fn question(row: u64, a: u64) -> Query
     }
 }
 
+// Rows 0 to 29.
+pub fn plain(row: u64, a: u64, b: u64, c: u64, d: u64) -> Call
+    ensures { λ r. ⌜ r ≡ plainOf row a b c d ⌝ }
+{
+    if row < 14 {
+        return change(row, a, b, c, d);
+    }
+    Call::Ask(question(row - 14, a))
+}
+
 // A word, or 0 where there is none.
 fn word(words: &[u64], i: usize) -> u64
     ensures { λ r. ⌜ r ≡ getD (now (words .entry)) i 0 ⌝ }
@@ -143,13 +152,9 @@ pub fn read(words: &[u64]) -> Coded
     let row = word(words, 0);
     let a = word(words, 1);
     let b = word(words, 2);
-    if row < 14 {
-        let call = change(row, a, b, word(words, 3), word(words, 4));
-        return Coded::Plain(call);
-    }
     if row < 30 {
-        let query = question(row - 14, a);
-        return Coded::Plain(Call::Ask(query));
+        let call = plain(row, a, b, word(words, 3), word(words, 4));
+        return Coded::Plain(call);
     }
     let room = if b < 256 { b as usize } else { LIST_MAX };
     Coded::Expired {

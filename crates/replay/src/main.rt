@@ -1,12 +1,12 @@
 // A script of calls from standard input, run on the sender, the timers and the estimator: a line of answers for each, as the Rust's own
 // driver writes them. What a line means is `script`'s, what is written `answers`' and its neighbours'.
 use calls::Call;
-use commands::Command;
-use commands::RtoCall;
-use commands::TimerCall;
 use rto::Made;
 use rto::RtoManager;
 use script::Line;
+use script::commands::Command;
+use script::commands::RtoCall;
+use script::commands::TimerCall;
 use sender_head::Head;
 use timer::Maximum;
 use timer::TimerTable;

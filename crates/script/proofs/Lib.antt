@@ -1,2 +1,4 @@
 -- What is proved of the definitions alone.
 pub mod Reading
+pub mod Rows
+pub mod Shown

@@ -8,8 +8,10 @@ use lib.Dec.{eqb}
 use Rattle.words.specs.declared.Token.{Token}
 use Rattle.words.specs.Tokens.{tokenOf, beginOf, growOf, grown}
 use Rattle.words.proofs.Reading.{reads-words}
-use Rattle.commands.specs.declared.Command.{Command}
-use Rattle.commands.specs.Table.{commandOf, commandIn}
+use Rattle.script.specs.declared.commands.Command.{Command}
+use Rattle.script.specs.Table.{table, rowOf}
+use Rattle.script.specs.Arguments.{beforeOf}
+use Rattle.script.specs.Commands.{estimateOf, madeOf, commandOf, commandIn}
 use Rattle.script.specs.declared.Line.{Line}
 use Rattle.script.specs.Meaning.{blank, whole, wordsFrom}
 use Rattle.script.specs.Lines.{startOf, storedOf, markedOf, endedOf, longerOf, feedOf, finishOf, fedOf}
@@ -57,7 +59,7 @@ ends (a ∷ b ∷ c ∷ d ∷ e ∷ []) k comment = refl
 ends (a ∷ b ∷ c ∷ d ∷ e ∷ f ∷ more) k comment = refl
 
 finishes : (ts : List Token) (comment : Bool) → finishOf (between ts comment) ≡ commandOf ts
-unfolding finishOf commandIn endedOf markedOf between slots
+unfolding finishOf commandIn endedOf markedOf between slots madeOf estimateOf beforeOf rowOf table
 finishes [] comment = refl
 finishes (a ∷ []) comment = refl
 finishes (a ∷ b ∷ []) comment = refl

@@ -5,8 +5,8 @@ use mathlib.Core.List.{List, [], _∷_}
 use lib.Dec.{eqb, ltb}
 use Rattle.words.specs.declared.Token.{Token}
 use Rattle.words.specs.Tokens.{beginOf, growOf}
-use Rattle.commands.specs.declared.Command.{Command}
-use Rattle.commands.specs.Table.{commandIn}
+use Rattle.script.specs.declared.commands.Command.{Command}
+use Rattle.script.specs.Commands.{commandIn}
 use Rattle.script.specs.declared.Line.{Line}
 use Rattle.script.specs.Meaning as Meaning
 

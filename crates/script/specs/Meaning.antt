@@ -4,8 +4,8 @@ use mathlib.Core.Bool.{Bool, cond, _||_}
 use mathlib.Core.List.{List, [], _∷_, _++_, map}
 use lib.Dec.{eqb}
 use Rattle.words.specs.Tokens.{tokenOf}
-use Rattle.commands.specs.declared.Command.{Command}
-use Rattle.commands.specs.Table.{commandOf}
+use Rattle.script.specs.declared.commands.Command.{Command}
+use Rattle.script.specs.Commands.{commandOf}
 
 -- a space, a tab, a carriage return
 abbrev pub blank : ℕ → Bool

@@ -1,7 +1,11 @@
 // A script's line, read byte by byte. What has been read is a small record by value, so a line of any length needs no room: `feed` takes a
 // byte of it, and `finish` says which call it is. The law of specs/Claims says that feeding all the bytes of a line and finishing gives
 // `lineMeans` of those bytes.
-use commands::Command;
+pub mod arguments;
+pub mod commands;
+pub mod table;
+
+use self::commands::Command;
 use words::Token;
 ghost use mathlib.Core.Path.{_≡_};
 ghost use Rattle.script.specs.Lines.{startOf, blank, placedOf, nextOf, storedOf, endedOf, markedOf, longerOf, feedOf, finishOf};

@@ -2,5 +2,3 @@
 pub mod Figures
 pub mod Tokens
 pub mod Claims
--- The arguments of a script's calls.
-pub mod Arguments

@@ -24,6 +24,14 @@ abbrev pub tokenOf : List ℕ → Token
 tokenOf [] = Token.Other
 tokenOf (b ∷ bs) = cond (eqb b 45) (dashed bs) (cond (digit b) (number Token.Number (b ∷ bs)) (name (b ∷ bs)))
 
+-- the number of a name, and 0, which no name has, for any other word
+unfoldable pub codeOf : Token → ℕ
+codeOf (Token.Name n) = n
+codeOf (Token.Number n) = 0
+codeOf Token.Dash = 0
+codeOf (Token.Negative n) = 0
+codeOf Token.Other = 0
+
 -- ---- byte by byte
 
 abbrev pub appendedOf : ℕ → ℕ → Appended

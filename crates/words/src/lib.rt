@@ -1,9 +1,7 @@
 // A word of a script, read byte by byte: a name, a number or a dash. `tokenOf` of specs/ says what a whole word is, and its law that
 // beginning with the first byte and growing by the others gives just that.
-pub mod arguments;
-
 ghost use mathlib.Core.Path.{_≡_};
-ghost use Rattle.words.specs.Tokens.{beginOf, growOf, letteredOf, appendedOf, heldAs};
+ghost use Rattle.words.specs.Tokens.{beginOf, growOf, letteredOf, appendedOf, heldAs, codeOf};
 
 // A name has lower-case letters alone, at most ten, and is held as two octal digits a letter; a number fits 64 bits.
 pub enum Token {
@@ -106,5 +104,18 @@ pub fn grow(token: Token, byte: u8) -> Token
         Token::Dash => negated(0, byte),
         Token::Negative(value) => negated(value, byte),
         Token::Other => Token::Other,
+    }
+}
+
+// The number of a name, and 0, which no name has, for any other word.
+pub fn code(token: Token) -> u64
+    ensures { λ r. ⌜ r ≡ codeOf token ⌝ }
+{
+    match token {
+        Token::Name(letters) => letters,
+        Token::Number(_) => 0,
+        Token::Dash => 0,
+        Token::Negative(_) => 0,
+        Token::Other => 0,
     }
 }

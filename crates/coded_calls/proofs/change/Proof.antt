@@ -5,7 +5,7 @@ use lib.Dec.{eqb}
 use mir.Syntax.{w64}
 use mir.Val.{SFits}
 use mir.Facts.{toZ-ofZ}
-use Rattle.model.specs.Calls.{Open, SetReliability, SetLow, SetHigh, Write, Release, Abandon, Acknowledge, Pop}
+use Rattle.calls.specs.declared.Call.the-variants.{Open, SetReliability, SetLow, SetHigh, Write, Release, Abandon, Acknowledge, Pop}
 use Rattle.coded_calls.specs.Picked.{row-change, passed, row-last}
 use borrow.Author.Needs.{needs}
 use Rattle.coded_calls.proofs.change.Statement.{statement}

@@ -1,6 +1,6 @@
 -- By the row.
 use mathlib.Core.Path.{ap}
-use Rattle.model.specs.Calls.{Get, IsAbandoned, PendingContainsStream, ContainsStream, BufferedAmount, LowThreshold, HighThreshold}
+use Rattle.calls.specs.declared.Query.the-variants.{Get, IsAbandoned, PendingContainsStream, ContainsStream, BufferedAmount, LowThreshold, HighThreshold}
 use Rattle.coded_calls.specs.Picked.{row-question, passed, row-statistics}
 use borrow.Author.Needs.{needs}
 use Rattle.coded_calls.proofs.question.Statement.{statement}

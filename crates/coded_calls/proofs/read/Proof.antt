@@ -1,11 +1,10 @@
 -- By the row, of the words that were read.
-use mathlib.Core.Path.{_≡_, ap, ap₂, subst, _∙_}
-use Prim.Native.Nat.{ℕ, _-_, _<_}
+use mathlib.Core.Path.{_≡_, ap, subst, _∙_}
+use Prim.Native.Nat.{ℕ, _<_}
 use native.Mathlib.Omega.{arith}
 use denote.Ref.{now}
 use Rattle.model.specs.Calls.{Ask, ExpiredInflight}
-use Rattle.coded_calls.specs.Coded.{question}
-use Rattle.coded_calls.specs.Picked.{all-words, is-change, is-question, is-listing}
+use Rattle.coded_calls.specs.Picked.{all-words, is-plain, is-listing}
 use borrow.Author.Needs.{needs}
 use Rattle.coded_calls.proofs.read.Statement.{statement}
 use Rattle.coded_calls.proofs.read.Tie as tie
@@ -25,40 +24,30 @@ word-requires-4 c κs = search needs
 word-requires-5 : tie.Need-word-requires-5
 word-requires-5 c κs = search needs
 
-change-requires : tie.Need-change-requires
-change-requires c κs = search needs
+plain-requires : tie.Need-plain-requires
+plain-requires c κs = search needs
 
 returns : tie.Need-returns
 returns c =
     let w = now (c .before .before .before .before .before .before .before .before .args .words) in
-    let h = ap (λ (row : ℕ). row) (c .before .before .before .before .before .before .word .ensures) in
-    (is-change w (subst (λ (k : ℕ). k < 14) h (c .before .before .before .if1 .taken)) (c .change .ensures ∙ all-words (c .before .before .before .before .before .before .word .ensures) (c .before .before .before .before .before .word2 .ensures) (c .before .before .before .before .word3 .ensures) (c .before .before .word4 .ensures) (c .before .word5 .ensures)), tt)
-
-question-requires : tie.Need-question-requires
-question-requires c κs = search needs
+    let h = c .before .before .before .before .before .before .word .ensures in
+    (is-plain w (subst (λ (k : ℕ). k < 30) h (c .before .before .before .if1 .taken)) (c .plain .ensures ∙ all-words h (c .before .before .before .before .before .word2 .ensures) (c .before .before .before .before .word3 .ensures) (c .before .before .word4 .ensures) (c .before .word5 .ensures)), tt)
 
 returns-2 : tie.Need-returns-2
 returns-2 c =
-    let w = now (c .before .before .before .before .before .before .before .args .words) in
-    let e = c .before .before .before .before .before .word .ensures in
-    let f = c .before .before .before .before .word2 .ensures in
-    (is-question w (omega (arith, e, c .before .before .if1 .left)) (omega (arith, e, c .before .if2 .taken)) (c .question .ensures ∙ ap₂ (λ (k a : ℕ). question (k - 14) a) e f), tt)
+    let w = now (c .before .before .before .before .before .before .args .words) in
+    let e = c .before .before .before .before .word .ensures in
+    let f = c .before .before .before .word2 .ensures in
+    let g = c .before .before .word3 .ensures in
+    (ap (λ (a : ℕ). Ask (ExpiredInflight a (c .before .before .word3 .result))) f ∙ is-listing w (c .before .before .word3 .result) (omega (arith, e, c .before .if1 .left)) (omega (arith, g, c .if2 .taken)), omega (arith, c .if2 .taken))
 
 returns-3 : tie.Need-returns-3
 returns-3 c =
-    let w = now (c .before .before .before .before .before .before .before .args .words) in
-    let e = c .before .before .before .before .before .word .ensures in
-    let f = c .before .before .before .before .word2 .ensures in
-    let g = c .before .before .before .word3 .ensures in
-    (ap (λ (a : ℕ). Ask (ExpiredInflight a (c .before .before .before .word3 .result))) f ∙ is-listing w (c .before .before .before .word3 .result) (omega (arith, e, c .before .if2 .left)) (omega (arith, g, c .if3 .taken)), omega (arith, c .if3 .taken))
-
-returns-4 : tie.Need-returns-4
-returns-4 c =
-    let w = now (c .before .before .before .before .before .before .before .args .words) in
-    let e = c .before .before .before .before .before .word .ensures in
-    let f = c .before .before .before .before .word2 .ensures in
-    let g = c .before .before .before .word3 .ensures in
-    (ap (λ (a : ℕ). Ask (ExpiredInflight a 256)) f ∙ is-listing w 256 (omega (arith, e, c .before .if2 .left)) (omega (arith, g, c .if3 .left)), omega arith)
+    let w = now (c .before .before .before .before .before .before .args .words) in
+    let e = c .before .before .before .before .word .ensures in
+    let f = c .before .before .before .word2 .ensures in
+    let g = c .before .before .word3 .ensures in
+    (ap (λ (a : ℕ). Ask (ExpiredInflight a 256)) f ∙ is-listing w 256 (omega (arith, e, c .before .if1 .left)) (omega (arith, g, c .if2 .left)), omega arith)
 
 pub read-spec : {M : Type 1} → statement M
 read-spec =
@@ -69,9 +58,7 @@ read-spec =
     word-requires-3
     word-requires-4
     word-requires-5
-    change-requires
+    plain-requires
     returns
-    question-requires
     returns-2
-    returns-3
-    returns-4)
+    returns-3)

@@ -1,6 +1,6 @@
 -- The words of the line as it ends.
 use mathlib.Core.Path.{ap, _∙_}
-use Rattle.commands.specs.Table.{commandIn}
+use Rattle.script.specs.Commands.{commandIn}
 use Rattle.script.specs.declared.Line.{Line}
 use Rattle.script.specs.Lines.{finishOf}
 use borrow.Author.Needs.{needs}
