@@ -1,5 +1,8 @@
 -- Which of the model's calls a value is, and which of its answers; and what the code does of any state at all.
+use mathlib.Core.Path.{_≡_}
 use mathlib.Core.Bool.{Bool, true, false}
+use mathlib.Core.List.{List}
+use Prim.Native.Nat.{ℕ}
 use Rattle.limits.specs.Limits.{Room}
 use Rattle.model.specs.State.{Sender, Out}
 use Rattle.model.specs.Calls as Model
@@ -7,6 +10,9 @@ use Rattle.model.specs.Calls.{step, told}
 use Rattle.outbound_send.specs.Lean.{leanStart, leanSend}
 use Rattle.outbound_abandon.specs.Lean.{leanAbandon}
 use Rattle.outbound_abandon.specs.LeanExpiry.{leanExpire, leanExpireTail}
+use Rattle.outbound_queue.specs.Outbound.{Does}
+use Rattle.sender_head.specs.declared.Head.{Head}
+use Rattle.sender_head.specs.Whole.{roomIn, senderOf, Counted}
 use Rattle.calls.specs.declared.Query.{Query}
 use Rattle.calls.specs.declared.Call.{Call}
 use Rattle.calls.specs.declared.Answer.{Answer}
@@ -120,3 +126,9 @@ sums (Call.Acknowledge t) = false
 sums (Call.Pop t) = false
 sums Call.MarkAll = false
 sums (Call.Ask q) = asksSum q
+
+-- a call leaves the head and the cells thus, and answers: of every head and every cells what the code does there, and the model's call in every `Good` state
+abbrev pub Steps : Call → Head → List ℕ → Head → List ℕ → Answer → Type 0
+Steps call h ws h′ ws′ a =
+    ((sums call ≡ true → Counted h ws) → Does (roomIn ws) (senderOf h ws) (record { after = senderOf h′ ws′; says = said a }) (lean (roomIn ws) call (senderOf h ws)) (step (roomIn ws) (meant call) (senderOf h ws)))
+    × (Counted h ws → Counted h′ ws′)

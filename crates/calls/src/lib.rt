@@ -14,10 +14,10 @@ use model::Written;
 use sender_head::Head;
 ghost use mathlib.Core.Path.{_≡_};
 ghost use mathlib.Core.Bool.{true};
-ghost use Rattle.model.specs.Calls.{answer, step};
-ghost use Rattle.outbound_queue.specs.Outbound.{Does};
-ghost use Rattle.sender_head.specs.Whole.{roomIn, senderOf, Counted};
-ghost use Rattle.calls.specs.Meant.{asked, meant, said, lean, asksSum, sums};
+ghost use Rattle.model.specs.Calls.{answer};
+ghost use Rattle.sender_head.specs.Whole.{senderOf, Counted};
+ghost use Rattle.calls.specs.declared.Answer.{Answer};
+ghost use Rattle.calls.specs.Meant.{asked, said, asksSum, Steps};
 
 // What changes nothing.
 pub enum Query {
@@ -187,162 +187,158 @@ pub fn ask(h: Head, cells: &[u64], query: Query) -> Answer
     }
 }
 
+// ---- what a call of the layer below made, as a step
+
+fn told(head: Head, answer: Answer) -> Stepped
+    ensures { λ r. ⌜ r ≡ record { head = head; answer = answer } ⌝ }
+{
+    Stepped {
+        head: head,
+        answer: answer,
+    }
+}
+
+fn done(head: Head, answer: Done) -> Stepped
+    ensures { λ r. ⌜ r ≡ record { head = head; answer = Answer.ToDo answer } ⌝ }
+{
+    told(head, Answer::ToDo(answer))
+}
+
+fn released(head: Head, answer: Released) -> Stepped
+    ensures { λ r. ⌜ r ≡ record { head = head; answer = Answer.ToRelease answer } ⌝ }
+{
+    told(head, Answer::ToRelease(answer))
+}
+
+fn opened(made: sender_streams::Opening) -> Stepped
+    ensures { λ r. ⌜ r ≡ record { head = made .head; answer = Answer.ToDo (made .answer) } ⌝ }
+{
+    let head = made.head;
+    let answer = made.answer;
+    told(head, Answer::ToDo(answer))
+}
+
+fn wrote(made: sender_write::Writing) -> Stepped
+    ensures { λ r. ⌜ r ≡ record { head = made .head; answer = Answer.ToWrite (made .answer) } ⌝ }
+{
+    let head = made.head;
+    let answer = made.answer;
+    told(head, Answer::ToWrite(answer))
+}
+
+fn started(made: sender_calls::Started) -> Stepped
+    ensures { λ r. ⌜ r ≡ record { head = made .head; answer = Answer.ToDo (made .answer) } ⌝ }
+{
+    let head = made.head;
+    let answer = made.answer;
+    told(head, Answer::ToDo(answer))
+}
+
+fn sent(made: sender_calls::Sending) -> Stepped
+    ensures { λ r. ⌜ r ≡ record { head = made .head; answer = Answer.ToSend (made .answer) } ⌝ }
+{
+    let head = made.head;
+    let answer = made.answer;
+    told(head, Answer::ToSend(answer))
+}
+
+fn expired(made: sender_calls::Expiring) -> Stepped
+    ensures { λ r. ⌜ r ≡ record { head = made .head; answer = Answer.ToExpire (made .answer) } ⌝ }
+{
+    let head = made.head;
+    let answer = made.answer;
+    told(head, Answer::ToExpire(answer))
+}
+
+fn tail_expired(made: sender_calls::TailExpiring) -> Stepped
+    ensures { λ r. ⌜ r ≡ record { head = made .head; answer = Answer.ToExpireTail (made .answer) } ⌝ }
+{
+    let head = made.head;
+    let answer = made.answer;
+    told(head, Answer::ToExpireTail(answer))
+}
+
+fn abandoned(made: sender_calls::Abandoning) -> Stepped
+    ensures { λ r. ⌜ r ≡ record { head = made .head; answer = Answer.ToAbandon (made .answer) } ⌝ }
+{
+    let head = made.head;
+    let answer = made.answer;
+    told(head, Answer::ToAbandon(answer))
+}
+
+fn acknowledged(made: sender_calls::flight::Acked) -> Stepped
+    ensures { λ r. ⌜ r ≡ record { head = made .head; answer = Answer.Number (made .bytes) } ⌝ }
+{
+    let head = made.head;
+    let answer = made.bytes;
+    told(head, Answer::Number(answer as u64))
+}
+
+fn popped(made: sender_calls::flight::Popped) -> Stepped
+    ensures { λ r. ⌜ r ≡ record { head = made .head; answer = Answer.ToFind (made .front) } ⌝ }
+{
+    let head = made.head;
+    let answer = made.front;
+    told(head, Answer::ToFind(answer))
+}
+
 // Of every head and every cells what the code does there, and the model's call in every `Good` state.
 pub fn step(h: Head, cells: &mut [u64], call: Call) -> Stepped
-    ensures { λ r. ⌜ ((sums call ≡ true → Counted h (now (cells .entry))) → Does (roomIn (now (cells .entry))) (senderOf h (now (cells .entry))) (record { after = senderOf (r .head) (now (cells .exit)); says = said (r .answer) }) (lean (roomIn (now (cells .entry))) call (senderOf h (now (cells .entry)))) (step (roomIn (now (cells .entry))) (meant call) (senderOf h (now (cells .entry))))) × (Counted h (now (cells .entry)) → Counted (r .head) (now (cells .exit))) ⌝ }
+    ensures { λ r. ⌜ Steps call h (now (cells .entry)) (r .head) (now (cells .exit)) (r .answer) ⌝ }
 {
     match call {
         Call::Open {
             identifier,
             maximum,
-        } => {
-            let made = sender_streams::open_stream(h, cells, identifier, maximum);
-            let head = made.head;
-            let answer = made.answer;
-            Stepped {
-                head: head,
-                answer: Answer::ToDo(answer),
-            }
-        }
+        } => opened(sender_streams::open_stream(h, cells, identifier, maximum)),
         Call::SetReliability {
             identifier,
             unordered,
             kind,
             value,
-        } => {
-            let answer = sender_streams::set_reliability(
-                h,
-                cells,
-                identifier,
-                unordered,
-                kind,
-                value,
-            );
-            Stepped {
-                head: h,
-                answer: Answer::ToDo(answer),
-            }
-        }
+        } => done(
+            h,
+            sender_streams::set_reliability(h, cells, identifier, unordered, kind, value),
+        ),
         Call::SetLow {
             identifier,
             threshold,
-        } => {
-            let answer = sender_streams::set_low_threshold(h, cells, identifier, threshold);
-            Stepped {
-                head: h,
-                answer: Answer::ToDo(answer),
-            }
-        }
+        } => done(
+            h,
+            sender_streams::set_low_threshold(h, cells, identifier, threshold),
+        ),
         Call::SetHigh {
             identifier,
             threshold,
-        } => {
-            let answer = sender_streams::set_high_threshold(h, cells, identifier, threshold);
-            Stepped {
-                head: h,
-                answer: Answer::ToDo(answer),
-            }
-        }
+        } => done(
+            h,
+            sender_streams::set_high_threshold(h, cells, identifier, threshold),
+        ),
         Call::Write {
             identifier,
             protocol,
             offset,
             length,
-        } => {
-            let made = sender_write::write(h, cells, identifier, protocol, offset, length);
-            let head = made.head;
-            let answer = made.answer;
-            Stepped {
-                head: head,
-                answer: Answer::ToWrite(answer),
-            }
-        }
+        } => wrote(sender_write::write(h, cells, identifier, protocol, offset, length)),
         Call::Release {
             identifier,
-            released,
-        } => {
-            let answer = sender_streams::release(h, cells, identifier, released);
-            Stepped {
-                head: h,
-                answer: Answer::ToRelease(answer),
-            }
-        }
-        Call::StartLifetimes { clock } => {
-            let made = sender_calls::start_lifetimes(h, cells, clock);
-            let head = made.head;
-            let answer = made.answer;
-            Stepped {
-                head: head,
-                answer: Answer::ToDo(answer),
-            }
-        }
-        Call::Send { clock } => {
-            let made = sender_calls::send(h, cells, clock);
-            let head = made.head;
-            let answer = made.answer;
-            Stepped {
-                head: head,
-                answer: Answer::ToSend(answer),
-            }
-        }
-        Call::ExpirePending { clock } => {
-            let made = sender_calls::expire_pending(h, cells, clock);
-            let head = made.head;
-            let answer = made.answer;
-            Stepped {
-                head: head,
-                answer: Answer::ToExpire(answer),
-            }
-        }
-        Call::ExpirePendingTail { clock } => {
-            let made = sender_calls::expire_pending_tail(h, cells, clock);
-            let head = made.head;
-            let answer = made.answer;
-            Stepped {
-                head: head,
-                answer: Answer::ToExpireTail(answer),
-            }
-        }
-        Call::Abandon { tsn } => {
-            let made = sender_calls::abandon(h, cells, tsn);
-            let head = made.head;
-            let answer = made.answer;
-            Stepped {
-                head: head,
-                answer: Answer::ToAbandon(answer),
-            }
-        }
-        Call::Acknowledge { tsn } => {
-            let made = sender_calls::flight::acknowledge(h, cells, tsn);
-            let head = made.head;
-            let answer = made.bytes;
-            Stepped {
-                head: head,
-                answer: Answer::Number(answer as u64),
-            }
-        }
-        Call::Pop { tsn } => {
-            let made = sender_calls::flight::pop(h, cells, tsn);
-            let head = made.head;
-            let answer = made.front;
-            Stepped {
-                head: head,
-                answer: Answer::ToFind(answer),
-            }
-        }
+            released: amount,
+        } => released(h, sender_streams::release(h, cells, identifier, amount)),
+        Call::StartLifetimes { clock } => started(sender_calls::start_lifetimes(h, cells, clock)),
+        Call::Send { clock } => sent(sender_calls::send(h, cells, clock)),
+        Call::ExpirePending { clock } => expired(sender_calls::expire_pending(h, cells, clock)),
+        Call::ExpirePendingTail { clock } => tail_expired(sender_calls::expire_pending_tail(
+            h,
+            cells,
+            clock,
+        )),
+        Call::Abandon { tsn } => abandoned(sender_calls::abandon(h, cells, tsn)),
+        Call::Acknowledge { tsn } => acknowledged(sender_calls::flight::acknowledge(h, cells, tsn)),
+        Call::Pop { tsn } => popped(sender_calls::flight::pop(h, cells, tsn)),
         Call::MarkAll => {
             sender_calls::flight::mark_all(h, cells);
-            Stepped {
-                head: h,
-                answer: Answer::ToDo(Done::Done),
-            }
+            done(h, Done::Done)
         }
-        Call::Ask(query) => {
-            let answer = ask(h, cells, query);
-            Stepped {
-                head: h,
-                answer: answer,
-            }
-        }
+        Call::Ask(query) => told(h, ask(h, cells, query)),
     }
 }

@@ -1,13 +1,22 @@
 -- What a call with a flat reply does and says, from what the call does: `f` is the flat reply of its answer.
-use mathlib.Core.Path.{_≡_, ap, _∙_}
+use mathlib.Core.Path.{_≡_, refl, ap, _∙_}
 use mathlib.Core.List.{List}
 use Prim.Native.Nat.{ℕ}
 use Rattle.limits.specs.Limits.{Room}
-use Rattle.model.specs.State.{Sender, Out}
+use Rattle.limits.specs.Refusals.{done}
+use Rattle.model.specs.State.{Sender, Out, same}
 use Rattle.model.specs.Calls.{told}
 use Rattle.outbound_queue.specs.Outbound.{Does}
 use Rattle.sender_head.specs.declared.Head.{Head}
 use Rattle.sender_head.specs.Whole.{senderOf, Counted}
+use Rattle.flat.specs.declared.Reply.{Reply}
+use Rattle.flat.specs.Replies.{onlyNumber}
+
+-- ---- what a call does and says
+
+-- the sender is made anew, whatever head and cells were; the cells stay
+abbrev pub Makes : Sender → Head → List ℕ → Head → List ℕ → Reply → Type 0
+Makes s h ws h′ ws′ y = (senderOf h′ ws′ ≡ s) × (Counted h′ ws′ × ((ws′ ≡ ws) × (y ≡ onlyNumber done)))
 
 -- the model's call, of every head and every cells
 abbrev pub Goes : {A B : Type 0} → (A → B) → (Sender → Out A) → Head → List ℕ → Head → List ℕ → B → Type 0
@@ -18,28 +27,40 @@ abbrev pub Leans : {A B : Type 0} → (A → B) → Room → (lean call : Sender
 Leans f room lean call h ws h′ ws′ y =
     Does room (senderOf h ws) (record { after = senderOf h′ ws′; says = y }) (told f (lean (senderOf h ws))) (told f (call (senderOf h ws))) × (Counted h ws → Counted h′ ws′)
 
--- ---- the call leaves `h′`; its answer `x` is the reply `y`
+-- a call of the model that answers nothing: it is done
+abbrev pub doing : (Sender → Sender) → Sender → Out ℕ
+doing call s = record { after = call s; says = done }
 
-abbrev got : {A : Type 0} → Sender → A → Out A
-got s a = record { after = s; says = a }
+-- a question: the model's answer
+abbrev pub Asks : {A B : Type 0} → (A → B) → (Sender → A) → Head → List ℕ → B → Type 0
+Asks f ask h ws y = y ≡ f (ask (senderOf h ws))
 
-module _ {A B : Type 0} (f : A → B) (h : Head) (ws : List ℕ) (h′ : Head) (ws′ : List ℕ) {x : A} {y : B} (reply : y ≡ f x) where
-  flatly : {o : Out A} → got (senderOf h′ ws′) x ≡ o → got (senderOf h′ ws′) y ≡ told f o
-  flatly e = ap (λ (z : B). got (senderOf h′ ws′) z) reply ∙ ap (told f) e
+-- a question of what is kept: it is the sum from a fresh sender on
+abbrev pub Sums : {A B : Type 0} → (A → B) → (Sender → A) → Head → List ℕ → B → Type 0
+Sums f ask h ws y = Counted h ws → y ≡ f (ask (senderOf h ws))
 
-  pub goes : (call : Sender → Out A) → (got (senderOf h′ ws′) x ≡ call (senderOf h ws)) × (Counted h ws → Counted h′ ws′) → Goes f call h ws h′ ws′ y
-  goes call d = (flatly (d .0), d .1)
+-- ---- the same from what the call does, whose answer `x` is the reply `y`; K is what else it keeps
 
-  pub leans : (room : Room) (lean call : Sender → Out A)
-      → Does room (senderOf h ws) (got (senderOf h′ ws′) x) (lean (senderOf h ws)) (call (senderOf h ws)) × (Counted h ws → Counted h′ ws′) → Leans f room lean call h ws h′ ws′ y
-  leans room lean call d = ((flatly (d .0 .0), λ good. flatly (d .0 .1 good)), d .1)
+module _ {A B : Type 0} (f : A → B) {x : A} {y : B} (reply : y ≡ f x) where
+  pub flatly : {s : Sender} {o : Out A} → same x s ≡ o → same y s ≡ told f o
+  flatly {s} e = ap (λ (z : B). same z s) reply ∙ ap (told f) e
 
--- ---- a question: the answer is `x`, and `y` is its flat reply
+  pub goes : {K : Type 0} {s : Sender} {o : Out A} → (same x s ≡ o) × K → (same y s ≡ told f o) × K
+  goes d = (flatly (d .0), d .1)
 
-module _ {A B : Type 0} (f : A → B) (h : Head) (ws : List ℕ) {x : A} {y : B} (reply : y ≡ f x) (ask : Sender → A) where
-  pub asks : x ≡ ask (senderOf h ws) → y ≡ f (ask (senderOf h ws))
+  pub leans : {K : Type 0} {room : Room} {t s : Sender} {l o : Out A} → Does room t (same x s) l o × K → Does room t (same y s) (told f l) (told f o) × K
+  leans d = ((flatly (d .0 .0), λ good. flatly (d .0 .1 good)), d .1)
+
+  pub asks : {z : A} → x ≡ z → y ≡ f z
   asks e = reply ∙ ap f e
 
-  -- of a kept counter
-  pub asks-kept : (Counted h ws → x ≡ ask (senderOf h ws)) → Counted h ws → y ≡ f (ask (senderOf h ws))
-  asks-kept e k = asks (e k)
+  pub sums : {K : Type 0} {z : A} → (K → x ≡ z) → K → y ≡ f z
+  sums e k = asks (e k)
+
+-- of a call that answers nothing
+pub marks : {K : Type 0} {s t : Sender} {y : Reply} → y ≡ onlyNumber done → (s ≡ t) × K → (same y s ≡ told onlyNumber (same done t)) × K
+marks {K} {s} {t} {y} reply d = goes onlyNumber reply (ap (λ (o : Sender). same done o) (d .0), d .1)
+
+-- of a sender that is made anew
+pub makes : {K : Type 0} {s t : Sender} {ws : List ℕ} {y : Reply} → y ≡ onlyNumber done → (s ≡ t) × K → (s ≡ t) × (K × ((ws ≡ ws) × (y ≡ onlyNumber done)))
+makes reply d = (d .0, (d .1, (refl, reply)))

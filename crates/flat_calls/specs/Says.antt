@@ -1,148 +1,163 @@
--- What each call does and says: the model's call of what head and cells mean, and the flat reply of its answer.
-use mathlib.Core.Path.{_≡_, ap, _∙_}
+-- What each call does and says: the model's call of what head and cells mean, and the flat reply of its answer. Written by tools/thin from
+-- tools/calls.table.
 use mathlib.Core.Bool.{Bool}
-use mathlib.Core.List.{List, _++_}
-use Prim.Native.Nat.{ℕ, _+_}
+use mathlib.Core.List.{List}
+use Prim.Native.Nat.{ℕ}
 use lib.IntN.{ℤ}
 use Rattle.limits.specs.Limits.{Room}
-use Rattle.limits.specs.Refusals.{done}
-use Rattle.model.specs.State.{fresh, Sender, inFlight, nextTsn}
-use Rattle.model.specs.Streams.{openStream, setReliability, setLow, setHigh, release, find, amount, counts}
 use Rattle.sender_head.specs.declared.Head.{Head}
 use Rattle.flat.specs.declared.Reply.{Reply}
-use Rattle.sender_head.specs.Whole.{senderOf, Counted}
-use Rattle.flat.specs.Replies.{onlyNumber, flatDone, flatReleased, flatWritten, flatSent, flatExpired, flatTail, flatAbandoned, numberIs, flatFound, flatListed, yesOrNo, flatEarliest, flatAmount, flatCounted}
-use Rattle.flat.specs.Calls.{Goes, Leans}
+use Rattle.flat.specs.declared.Freed.{Freed}
+use Rattle.flat.specs.declared.Fragment.{Fragment}
+use Rattle.flat.specs.declared.Counts.{Counts}
+use Rattle.flat.specs.Replies.{flatAbandoned, flatAmount, flatCounted, flatDone, flatEarliest, flatExpired, flatFound, flatReleased, flatSent, flatTail, flatWritten, numberIs, onlyNumber, yesOrNo}
+use Rattle.flat.specs.Calls.{Makes, Goes, Leans, doing, Asks, Sums}
+use Rattle.flat_calls.specs.Listing.{Lists}
+use mathlib.Core.List.{_++_}
+use Prim.Native.Nat.{_+_}
+use lib.ListN.{length}
+use Rattle.model.specs.State.{fresh, inFlight, nextTsn}
+use Rattle.model.specs.Streams.{openStream, setReliability, setLow, setHigh, release, find, amount, counts}
 use Rattle.model.specs.Messages.{write}
 use Rattle.model.specs.Rings.{startLifetimes, send, expirePending, expirePendingTail, abandon, expiredInflight, head, bytes}
+use Rattle.model.specs.Flight.{acknowledge, pop, markAll, found, isAbandoned, earliestOutstanding, hasStream}
 use Rattle.outbound_send.specs.Lean.{leanStart, leanSend}
 use Rattle.outbound_abandon.specs.Lean.{leanAbandon}
 use Rattle.outbound_abandon.specs.LeanExpiry.{leanExpire, leanExpireTail}
-use Rattle.flat.specs.declared.Fragment.{Fragment}
-use Rattle.flat.specs.declared.Freed.{Freed}
-use lib.ListN.{length}
-use Rattle.model.specs.declared.Listed.{Listed}
-use Rattle.model.specs.Flight.{acknowledge, pop, markAll, found, isAbandoned, earliestOutstanding, hasStream}
-use Rattle.outbound_queue.specs.Outbound.{Does}
-use Rattle.outbound_abandon.specs.LeanListing.{leanList, Lent, listedIn}
-use Rattle.flat.specs.declared.Counts.{Counts}
+use Rattle.outbound_abandon.specs.LeanListing.{leanList}
 
-abbrev pub Inits : (tsn number : ℕ) → Head → List ℕ → Head → List ℕ → Reply → Type 0
-Inits tsn number h ws h′ ws′ y = (senderOf h′ ws′ ≡ fresh tsn number) × (Counted h′ ws′ × ((ws′ ≡ ws) × (y ≡ onlyNumber done)))
+-- ---- a fresh sender, and its streams
 
-abbrev pub Opens : Room → (identifier maximum : ℕ) → Head → List ℕ → Head → List ℕ → Reply → Type 0
-Opens room id max = Goes flatDone (openStream room id max)
+-- A fresh sender, whatever the bytes were: the first chunk takes the TSN `tsn`, the first message the number `number`. The cells stay.
+abbrev pub Init : (tsn number : ℕ) → Head → List ℕ → Head → List ℕ → Reply → Type 0
+Init tsn number = Makes (fresh tsn number)
 
-abbrev pub SetsReliability : (identifier : ℕ) → (unordered : Bool) → (kind value : ℕ) → Head → List ℕ → Head → List ℕ → Reply → Type 0
-SetsReliability id u k v = Goes flatDone (setReliability id u k v)
+-- A new stream: ordered, Reliable, and never high. Refusals: 2, 4, 5.
+abbrev pub OpenStream : Room → (identifier maximum : ℕ) → Head → List ℕ → Head → List ℕ → Reply → Type 0
+OpenStream room identifier maximum = Goes flatDone (openStream room identifier maximum)
 
-abbrev pub SetsLow : (identifier low : ℕ) → Head → List ℕ → Head → List ℕ → Reply → Type 0
-SetsLow id low = Goes flatDone (setLow id low)
+-- How messages that are written from now on are delivered. Refusal: 3.
+abbrev pub SetReliability : (identifier : ℕ) → (unordered : Bool) → (kind value : ℕ) → Head → List ℕ → Head → List ℕ → Reply → Type 0
+SetReliability identifier unordered kind value = Goes flatDone (setReliability identifier unordered kind value)
 
-abbrev pub SetsHigh : (identifier high : ℕ) → Head → List ℕ → Head → List ℕ → Reply → Type 0
-SetsHigh id high = Goes flatDone (setHigh id high)
+-- A release that brings the buffered amount from above this to it or below is answered yes. Refusal: 3.
+abbrev pub SetLowThreshold : (identifier low : ℕ) → Head → List ℕ → Head → List ℕ → Reply → Type 0
+SetLowThreshold identifier low = Goes flatDone (setLow identifier low)
 
-abbrev pub Releases : (identifier : ℕ) → (released : ℤ) → Head → List ℕ → Head → List ℕ → Reply → Type 0
-Releases id n = Goes flatReleased (release id n)
+-- A message that brings the buffered amount from below this to it or above is answered yes. Refusal: 3.
+abbrev pub SetHighThreshold : (identifier high : ℕ) → Head → List ℕ → Head → List ℕ → Reply → Type 0
+SetHighThreshold identifier high = Goes flatDone (setHigh identifier high)
 
-abbrev pub Writes : Room → (identifier protocol offset length : ℕ) → Head → List ℕ → Head → List ℕ → Reply → Type 0
-Writes room id p o l = Goes flatWritten (write room id p o l)
+-- Bytes of a stream have left the sender; `yes` where the amount fell to the low threshold. Refusal: 3.
+abbrev pub Release : (identifier : ℕ) → (released : ℤ) → Head → List ℕ → Head → List ℕ → Reply → Type 0
+Release identifier released = Goes flatReleased (release identifier released)
 
-abbrev pub Starts : Room → (clock : ℕ) → Head → List ℕ → Head → List ℕ → Reply → Type 0
-Starts room clock = Leans flatDone room (leanStart clock) (startLifetimes clock)
+-- ---- messages
 
-abbrev pub Sends : Room → (clock : ℕ) → Head → List ℕ → Head → List ℕ → Fragment → Type 0
-Sends room clock = Leans flatSent room (leanSend room clock) (send room clock)
+-- The caller keeps the bytes: a message is where they begin and how many they are. `yes` where the amount reached the high threshold. Refusals: 3, 6, 1, 7, 8, 9.
+abbrev pub Write : Room → (identifier protocol offset length : ℕ) → Head → List ℕ → Head → List ℕ → Reply → Type 0
+Write room identifier protocol offset length = Goes flatWritten (write room identifier protocol offset length)
 
-abbrev pub Expires : Room → (clock : ℕ) → Head → List ℕ → Head → List ℕ → Freed → Type 0
-Expires room clock = Leans flatExpired room (leanExpire clock) (expirePending clock)
+-- Starts the lifetimes of the messages not yet seen. Refusal: 1.
+abbrev pub StartLifetimes : Room → (clock : ℕ) → Head → List ℕ → Head → List ℕ → Reply → Type 0
+StartLifetimes room clock = Leans flatDone room (leanStart clock) (startLifetimes clock)
 
-abbrev pub ExpiresTail : Room → (clock : ℕ) → Head → List ℕ → Head → List ℕ → Freed → Type 0
-ExpiresTail room clock = Leans flatTail room (leanExpireTail room clock) (expirePendingTail clock)
+-- The next chunk goes to the flight. Refusals: 1; 10 where a chunk is pending.
+abbrev pub Send : Room → (clock : ℕ) → Head → List ℕ → Head → List ℕ → Fragment → Type 0
+Send room clock = Leans flatSent room (leanSend room clock) (send room clock)
 
-abbrev pub Abandons : Room → (tsn : ℕ) → Head → List ℕ → Head → List ℕ → Freed → Type 0
-Abandons room tsn = Leans flatAbandoned room (leanAbandon room tsn) (abandon tsn)
+-- The message at the head goes if it is due, and takes no TSN. Refusal: 1.
+abbrev pub ExpirePending : Room → (clock : ℕ) → Head → List ℕ → Head → List ℕ → Freed → Type 0
+ExpirePending room clock = Leans flatExpired room (leanExpire clock) (expirePending clock)
 
-abbrev pub Acknowledges : (tsn : ℕ) → Head → List ℕ → Head → List ℕ → Reply → Type 0
-Acknowledges tsn = Goes numberIs (acknowledge tsn)
+-- Abandons the message under way, if its rest has expired. Refusal: 1.
+abbrev pub ExpirePendingTail : Room → (clock : ℕ) → Head → List ℕ → Head → List ℕ → Freed → Type 0
+ExpirePendingTail room clock = Leans flatTail room (leanExpireTail room clock) (expirePendingTail clock)
 
-abbrev pub Pops : (tsn : ℕ) → Head → List ℕ → Head → List ℕ → Fragment → Type 0
-Pops tsn = Goes (flatFound tsn) (pop tsn)
+-- Abandons the message of a TSN in flight.
+abbrev pub Abandon : Room → (tsn : ℕ) → Head → List ℕ → Head → List ℕ → Freed → Type 0
+Abandon room tsn = Leans flatAbandoned room (leanAbandon room tsn) (abandon tsn)
 
-abbrev pub Marks : Head → List ℕ → Head → List ℕ → Reply → Type 0
-Marks h ws h′ ws′ y = (senderOf h′ ws′ ≡ markAll (senderOf h ws)) × ((Counted h ws → Counted h′ ws′) × (y ≡ onlyNumber done))
+-- ---- the flight
 
--- a listing: the reply, and the lent list
-pub record FlatLent : Type 0 where
-  pub reply : Reply
-  pub list : List ℕ
+-- The entry of a TSN is acknowledged; the value is the bytes that it held.
+abbrev pub Acknowledge : (tsn : ℕ) → Head → List ℕ → Head → List ℕ → Reply → Type 0
+Acknowledge tsn = Goes numberIs (acknowledge tsn)
 
-abbrev pub flatLent : Lent → FlatLent
-flatLent l = record { reply = flatListed (l .answer); list = l .list }
+-- Takes the oldest entry, if it has this TSN.
+abbrev pub Pop : (tsn : ℕ) → Head → List ℕ → Head → List ℕ → Fragment → Type 0
+Pop tsn = Goes (flatFound tsn) (pop tsn)
 
-abbrev pub Listing : Room → (out : List ℕ) → (clock : ℕ) → Sender → (out′ : List ℕ) → Reply → Type 0
-Listing room out clock s out′ y =
-    Does room s (record { reply = y; list = out′ }) (flatLent (listedIn out (leanList clock (length out) s))) (flatLent (listedIn out (expiredInflight clock (length out) s)))
+-- Every entry that is neither acknowledged nor abandoned is to be retransmitted.
+abbrev pub MarkAll : Head → List ℕ → Head → List ℕ → Reply → Type 0
+MarkAll = Goes onlyNumber (doing markAll)
 
--- the sender stays
-abbrev pub Lists : Room → (out : List ℕ) → (clock : ℕ) → Head → List ℕ → Head → List ℕ → (out′ : List ℕ) → Reply → Type 0
-Lists room out clock h ws h′ ws′ out′ y = Listing room out clock (senderOf h ws) out′ y × ((h′ ≡ h) × (ws′ ≡ ws))
+-- The TSNs in flight whose message has expired, in the front of the lent list; the value is how many. The sender stays. Refusals: 1, 11.
+abbrev pub ExpiredInflight : Room → (list : List ℕ) → (clock : ℕ) → Head → List ℕ → Head → List ℕ → List ℕ → Reply → Type 0
+ExpiredInflight room list clock = Lists room list (leanList clock) (expiredInflight clock)
 
--- the answer `x` is the reply `y`
-pub lists : (room : Room) (out : List ℕ) (clock : ℕ) (h : Head) (ws out′ : List ℕ) {x : Listed} {y : Reply} → y ≡ flatListed x
-    → Does room (senderOf h ws) (record { answer = x; list = out′ }) (listedIn out (leanList clock (length out) (senderOf h ws))) (listedIn out (expiredInflight clock (length out) (senderOf h ws)))
-    → Listing room out clock (senderOf h ws) out′ y
-lists room out clock h ws out′ {x} {y} reply d =
-    let flat : _≡_ {A = FlatLent} (record { reply = y; list = out′ }) (flatLent (record { answer = x; list = out′ })) = λ i. record { reply = reply i; list = out′ } in
-    (flat ∙ ap flatLent (d .0), λ good. flat ∙ ap flatLent (d .1 good))
+-- ---- questions
 
--- What each question answers: the model's answer of what head and cells mean, flat.
+-- The entry of a TSN.
+abbrev pub Get : (tsn : ℕ) → Head → List ℕ → Fragment → Type 0
+Get tsn = Asks (flatFound tsn) (λ s. found (inFlight tsn (s .flight)))
 
-abbrev pub Gets : (tsn : ℕ) → Head → List ℕ → Fragment → Type 0
-Gets tsn h ws y = y ≡ flatFound tsn (found (inFlight tsn (senderOf h ws .flight)))
+-- Whether the message of a TSN was given up. No for a TSN that is not in flight.
+abbrev pub IsAbandoned : (tsn : ℕ) → Head → List ℕ → Reply → Type 0
+IsAbandoned tsn = Asks yesOrNo (λ s. isAbandoned (inFlight tsn (s .flight)))
 
-abbrev pub AsksAbandoned : (tsn : ℕ) → Head → List ℕ → Reply → Type 0
-AsksAbandoned tsn h ws y = y ≡ yesOrNo (isAbandoned (inFlight tsn (senderOf h ws .flight)))
+-- The chunk that is sent next; it has no TSN yet.
+abbrev pub PeekPending : Head → List ℕ → Fragment → Type 0
+PeekPending = Asks (flatFound 0) (λ s. found (head (s .pending)))
 
-abbrev pub Peeks : Head → List ℕ → Fragment → Type 0
-Peeks h ws y = y ≡ flatFound 0 (found (head (senderOf h ws .pending)))
-
+-- The number of the next message.
 abbrev pub NextMessage : Head → List ℕ → Reply → Type 0
-NextMessage h ws y = y ≡ numberIs (senderOf h ws .numbers .next)
+NextMessage = Asks numberIs (λ s. s .numbers .next)
 
+-- The TSN of the next chunk that is sent.
 abbrev pub NextTsn : Head → List ℕ → Reply → Type 0
-NextTsn h ws y = y ≡ numberIs (nextTsn (senderOf h ws))
+NextTsn = Asks numberIs nextTsn
 
+-- How many chunks are pending.
 abbrev pub PendingLength : Head → List ℕ → Reply → Type 0
-PendingLength h ws y = y ≡ numberIs (length (senderOf h ws .pending .unordered) + length (senderOf h ws .pending .ordered))
+PendingLength = Asks numberIs (λ s. length (s .pending .unordered) + length (s .pending .ordered))
 
--- the counters are kept: they are the sums from a fresh sender on
+-- How many bytes are pending.
 abbrev pub PendingBytes : Head → List ℕ → Reply → Type 0
-PendingBytes h ws y = Counted h ws → y ≡ numberIs (bytes (senderOf h ws .pending .unordered) + bytes (senderOf h ws .pending .ordered))
+PendingBytes = Sums numberIs (λ s. bytes (s .pending .unordered) + bytes (s .pending .ordered))
 
+-- How many entries the flight has.
 abbrev pub InflightLength : Head → List ℕ → Reply → Type 0
-InflightLength h ws y = y ≡ numberIs (length (senderOf h ws .flight .entries))
+InflightLength = Asks numberIs (λ s. length (s .flight .entries))
 
+-- How many bytes the entries in flight hold.
 abbrev pub InflightBytes : Head → List ℕ → Reply → Type 0
-InflightBytes h ws y = Counted h ws → y ≡ numberIs (bytes (senderOf h ws .flight .entries))
+InflightBytes = Sums numberIs (λ s. bytes (s .flight .entries))
 
-abbrev pub Earliest : Head → List ℕ → Reply → Type 0
-Earliest h ws y = y ≡ flatEarliest (earliestOutstanding (senderOf h ws))
+-- The oldest TSN that is neither acknowledged nor abandoned, where `yes` is set.
+abbrev pub EarliestOutstanding : Head → List ℕ → Reply → Type 0
+EarliestOutstanding = Asks flatEarliest earliestOutstanding
 
-abbrev pub PendingContains : (identifier : ℕ) → Head → List ℕ → Reply → Type 0
-PendingContains id h ws y = y ≡ yesOrNo (hasStream id (senderOf h ws .pending .unordered ++ senderOf h ws .pending .ordered))
+-- Whether a stream has chunks pending.
+abbrev pub PendingContainsStream : (identifier : ℕ) → Head → List ℕ → Reply → Type 0
+PendingContainsStream identifier = Asks yesOrNo (λ s. hasStream identifier (s .pending .unordered ++ s .pending .ordered))
 
-abbrev pub Contains : (identifier : ℕ) → Head → List ℕ → Reply → Type 0
-Contains id h ws y = y ≡ yesOrNo (hasStream id (senderOf h ws .pending .unordered ++ senderOf h ws .pending .ordered ++ senderOf h ws .flight .entries))
+-- Whether a stream has chunks pending or in flight.
+abbrev pub ContainsStream : (identifier : ℕ) → Head → List ℕ → Reply → Type 0
+ContainsStream identifier = Asks yesOrNo (λ s. hasStream identifier (s .pending .unordered ++ s .pending .ordered ++ s .flight .entries))
 
-abbrev pub Buffered : (identifier : ℕ) → Head → List ℕ → Reply → Type 0
-Buffered id h ws y = y ≡ flatAmount (amount (find id (senderOf h ws .streams)) (λ t. t .buffered))
+-- How many bytes of a stream are written and not yet released. Refusal: 3.
+abbrev pub BufferedAmount : (identifier : ℕ) → Head → List ℕ → Reply → Type 0
+BufferedAmount identifier = Asks flatAmount (λ s. amount (find identifier (s .streams)) (λ t. t .buffered))
 
-abbrev pub Low : (identifier : ℕ) → Head → List ℕ → Reply → Type 0
-Low id h ws y = y ≡ flatAmount (amount (find id (senderOf h ws .streams)) (λ t. t .low))
+-- The low threshold of a stream. Refusal: 3.
+abbrev pub LowThreshold : (identifier : ℕ) → Head → List ℕ → Reply → Type 0
+LowThreshold identifier = Asks flatAmount (λ s. amount (find identifier (s .streams)) (λ t. t .low))
 
-abbrev pub High : (identifier : ℕ) → Head → List ℕ → Reply → Type 0
-High id h ws y = y ≡ flatAmount (amount (find id (senderOf h ws .streams)) (λ t. t .high))
+-- The high threshold of a stream. Refusal: 3.
+abbrev pub HighThreshold : (identifier : ℕ) → Head → List ℕ → Reply → Type 0
+HighThreshold identifier = Asks flatAmount (λ s. amount (find identifier (s .streams)) (λ t. t .high))
 
-abbrev pub Tallied : (identifier : ℕ) → Head → List ℕ → Counts → Type 0
-Tallied id h ws y = y ≡ flatCounted (counts (find id (senderOf h ws .streams)))
+-- Messages and bytes sent on a stream. Refusal: 3.
+abbrev pub Statistics : (identifier : ℕ) → Head → List ℕ → Counts → Type 0
+Statistics identifier = Asks flatCounted (λ s. counts (find identifier (s .streams)))

@@ -1,5 +1,5 @@
 // Every call over a head and the lent cells, its answer flat: what the exported forms are thin over. Each is one call of the layer below and
-// the flat reply of its answer; the questions change nothing.
+// the flat reply of its answer; the questions change nothing. Written by tools/thin from tools/calls.table.
 use flat::Counts;
 use flat::Fragment;
 use flat::Reply;
@@ -8,13 +8,13 @@ use flat::SaidFragment;
 use flat::SaidFreed;
 use sender_head::Head;
 ghost use Rattle.sender_head.specs.Whole.{roomIn};
-ghost use Rattle.flat_calls.specs.Says.{Inits, Opens, SetsReliability, SetsLow, SetsHigh, Releases, Writes, Starts, Sends, Expires, ExpiresTail, Abandons, Acknowledges, Pops};
-ghost use Rattle.flat_calls.specs.Says.{Marks, Lists, Gets, AsksAbandoned, Peeks, NextMessage, NextTsn, PendingLength, PendingBytes, InflightLength, InflightBytes, Earliest, PendingContains, Contains};
-ghost use Rattle.flat_calls.specs.Says.{Buffered, Low, High, Tallied};
+ghost use Rattle.flat_calls.specs.Says.{Init, OpenStream, SetReliability, SetLowThreshold, SetHighThreshold, Release, Write, StartLifetimes, Send, ExpirePending, ExpirePendingTail, Abandon};
+ghost use Rattle.flat_calls.specs.Says.{Acknowledge, Pop, MarkAll, ExpiredInflight, Get, IsAbandoned, PeekPending, NextMessage, NextTsn, PendingLength, PendingBytes, InflightLength};
+ghost use Rattle.flat_calls.specs.Says.{InflightBytes, EarliestOutstanding, PendingContainsStream, ContainsStream, BufferedAmount, LowThreshold, HighThreshold, Statistics};
 
-// A fresh sender, whatever head and cells were: the first chunk takes the TSN `tsn`, the first message the number `number`. The cells stay.
+// A fresh sender, whatever the bytes were: the first chunk takes the TSN `tsn`, the first message the number `number`. The cells stay.
 pub fn init(head: Head, cells: &mut [u64], tsn: u32, number: u64) -> Said
-    ensures { λ r. ⌜ Inits tsn number head (now (cells .entry)) (r .head) (now (cells .exit)) (r .reply) ⌝ }
+    ensures { λ r. ⌜ Init tsn number head (now (cells .entry)) (r .head) (now (cells .exit)) (r .reply) ⌝ }
 {
     let fresh = sender_head::new(tsn, number);
     let reply = flat::replies::only(0);
@@ -24,9 +24,9 @@ pub fn init(head: Head, cells: &mut [u64], tsn: u32, number: u64) -> Said
     }
 }
 
-// Refusals: 2, 4, 5.
+// A new stream: ordered, Reliable, and never high. Refusals: 2, 4, 5.
 pub fn open_stream(head: Head, cells: &mut [u64], identifier: u16, maximum: u32) -> Said
-    ensures { λ r. ⌜ Opens (roomIn (now (cells .entry))) identifier maximum head (now (cells .entry)) (r .head) (now (cells .exit)) (r .reply) ⌝ }
+    ensures { λ r. ⌜ OpenStream (roomIn (now (cells .entry))) identifier maximum head (now (cells .entry)) (r .head) (now (cells .exit)) (r .reply) ⌝ }
 {
     let after = sender_streams::open_stream(head, cells, identifier, maximum);
     let answer = after.answer;
@@ -38,7 +38,7 @@ pub fn open_stream(head: Head, cells: &mut [u64], identifier: u16, maximum: u32)
     }
 }
 
-// Refusal: 3.
+// How messages that are written from now on are delivered. Refusal: 3.
 pub fn set_reliability(
     head: Head,
     cells: &mut [u64],
@@ -47,7 +47,7 @@ pub fn set_reliability(
     kind: u8,
     value: u32,
 ) -> Said
-    ensures { λ r. ⌜ SetsReliability identifier unordered kind value head (now (cells .entry)) (r .head) (now (cells .exit)) (r .reply) ⌝ }
+    ensures { λ r. ⌜ SetReliability identifier unordered kind value head (now (cells .entry)) (r .head) (now (cells .exit)) (r .reply) ⌝ }
 {
     let answer = sender_streams::set_reliability(head, cells, identifier, unordered, kind, value);
     let reply = flat::replies::done(answer);
@@ -57,9 +57,9 @@ pub fn set_reliability(
     }
 }
 
-// Refusal: 3.
+// A release that brings the buffered amount from above this to it or below is answered yes. Refusal: 3.
 pub fn set_low_threshold(head: Head, cells: &mut [u64], identifier: u16, low: u64) -> Said
-    ensures { λ r. ⌜ SetsLow identifier low head (now (cells .entry)) (r .head) (now (cells .exit)) (r .reply) ⌝ }
+    ensures { λ r. ⌜ SetLowThreshold identifier low head (now (cells .entry)) (r .head) (now (cells .exit)) (r .reply) ⌝ }
 {
     let answer = sender_streams::set_low_threshold(head, cells, identifier, low);
     let reply = flat::replies::done(answer);
@@ -69,9 +69,9 @@ pub fn set_low_threshold(head: Head, cells: &mut [u64], identifier: u16, low: u6
     }
 }
 
-// Refusal: 3.
+// A message that brings the buffered amount from below this to it or above is answered yes. Refusal: 3.
 pub fn set_high_threshold(head: Head, cells: &mut [u64], identifier: u16, high: u64) -> Said
-    ensures { λ r. ⌜ SetsHigh identifier high head (now (cells .entry)) (r .head) (now (cells .exit)) (r .reply) ⌝ }
+    ensures { λ r. ⌜ SetHighThreshold identifier high head (now (cells .entry)) (r .head) (now (cells .exit)) (r .reply) ⌝ }
 {
     let answer = sender_streams::set_high_threshold(head, cells, identifier, high);
     let reply = flat::replies::done(answer);
@@ -81,9 +81,9 @@ pub fn set_high_threshold(head: Head, cells: &mut [u64], identifier: u16, high: 
     }
 }
 
-// Refusal: 3.
+// Bytes of a stream have left the sender; `yes` where the amount fell to the low threshold. Refusal: 3.
 pub fn release(head: Head, cells: &mut [u64], identifier: u16, released: i64) -> Said
-    ensures { λ r. ⌜ Releases identifier released head (now (cells .entry)) (r .head) (now (cells .exit)) (r .reply) ⌝ }
+    ensures { λ r. ⌜ Release identifier released head (now (cells .entry)) (r .head) (now (cells .exit)) (r .reply) ⌝ }
 {
     let answer = sender_streams::release(head, cells, identifier, released);
     let reply = flat::replies::released(answer);
@@ -93,7 +93,7 @@ pub fn release(head: Head, cells: &mut [u64], identifier: u16, released: i64) ->
     }
 }
 
-// The caller keeps the bytes: a message is where they begin and how many they are. Refusals: 3, 6, 1, 7, 8, 9.
+// The caller keeps the bytes: a message is where they begin and how many they are. `yes` where the amount reached the high threshold. Refusals: 3, 6, 1, 7, 8, 9.
 pub fn write(
     head: Head,
     cells: &mut [u64],
@@ -102,7 +102,7 @@ pub fn write(
     offset: u64,
     length: u64,
 ) -> Said
-    ensures { λ r. ⌜ Writes (roomIn (now (cells .entry))) identifier protocol offset length head (now (cells .entry)) (r .head) (now (cells .exit)) (r .reply) ⌝ }
+    ensures { λ r. ⌜ Write (roomIn (now (cells .entry))) identifier protocol offset length head (now (cells .entry)) (r .head) (now (cells .exit)) (r .reply) ⌝ }
 {
     let after = sender_write::write(head, cells, identifier, protocol, offset, length);
     let answer = after.answer;
@@ -114,9 +114,9 @@ pub fn write(
     }
 }
 
-// Refusal: 1.
+// Starts the lifetimes of the messages not yet seen. Refusal: 1.
 pub fn start_lifetimes(head: Head, cells: &mut [u64], clock: u64) -> Said
-    ensures { λ r. ⌜ Starts (roomIn (now (cells .entry))) clock head (now (cells .entry)) (r .head) (now (cells .exit)) (r .reply) ⌝ }
+    ensures { λ r. ⌜ StartLifetimes (roomIn (now (cells .entry))) clock head (now (cells .entry)) (r .head) (now (cells .exit)) (r .reply) ⌝ }
 {
     let after = sender_calls::start_lifetimes(head, cells, clock);
     let answer = after.answer;
@@ -128,9 +128,9 @@ pub fn start_lifetimes(head: Head, cells: &mut [u64], clock: u64) -> Said
     }
 }
 
-// Refusals: 1, 10.
+// The next chunk goes to the flight. Refusals: 1; 10 where a chunk is pending.
 pub fn send(head: Head, cells: &mut [u64], clock: u64) -> SaidFragment
-    ensures { λ r. ⌜ Sends (roomIn (now (cells .entry))) clock head (now (cells .entry)) (r .head) (now (cells .exit)) (r .reply) ⌝ }
+    ensures { λ r. ⌜ Send (roomIn (now (cells .entry))) clock head (now (cells .entry)) (r .head) (now (cells .exit)) (r .reply) ⌝ }
 {
     let after = sender_calls::send(head, cells, clock);
     let answer = after.answer;
@@ -142,9 +142,9 @@ pub fn send(head: Head, cells: &mut [u64], clock: u64) -> SaidFragment
     }
 }
 
-// Refusal: 1.
+// The message at the head goes if it is due, and takes no TSN. Refusal: 1.
 pub fn expire_pending(head: Head, cells: &mut [u64], clock: u64) -> SaidFreed
-    ensures { λ r. ⌜ Expires (roomIn (now (cells .entry))) clock head (now (cells .entry)) (r .head) (now (cells .exit)) (r .reply) ⌝ }
+    ensures { λ r. ⌜ ExpirePending (roomIn (now (cells .entry))) clock head (now (cells .entry)) (r .head) (now (cells .exit)) (r .reply) ⌝ }
 {
     let after = sender_calls::expire_pending(head, cells, clock);
     let answer = after.answer;
@@ -156,9 +156,9 @@ pub fn expire_pending(head: Head, cells: &mut [u64], clock: u64) -> SaidFreed
     }
 }
 
-// Refusal: 1.
+// Abandons the message under way, if its rest has expired. Refusal: 1.
 pub fn expire_pending_tail(head: Head, cells: &mut [u64], clock: u64) -> SaidFreed
-    ensures { λ r. ⌜ ExpiresTail (roomIn (now (cells .entry))) clock head (now (cells .entry)) (r .head) (now (cells .exit)) (r .reply) ⌝ }
+    ensures { λ r. ⌜ ExpirePendingTail (roomIn (now (cells .entry))) clock head (now (cells .entry)) (r .head) (now (cells .exit)) (r .reply) ⌝ }
 {
     let after = sender_calls::expire_pending_tail(head, cells, clock);
     let answer = after.answer;
@@ -170,8 +170,9 @@ pub fn expire_pending_tail(head: Head, cells: &mut [u64], clock: u64) -> SaidFre
     }
 }
 
+// Abandons the message of a TSN in flight.
 pub fn abandon(head: Head, cells: &mut [u64], tsn: u32) -> SaidFreed
-    ensures { λ r. ⌜ Abandons (roomIn (now (cells .entry))) tsn head (now (cells .entry)) (r .head) (now (cells .exit)) (r .reply) ⌝ }
+    ensures { λ r. ⌜ Abandon (roomIn (now (cells .entry))) tsn head (now (cells .entry)) (r .head) (now (cells .exit)) (r .reply) ⌝ }
 {
     let after = sender_calls::abandon(head, cells, tsn);
     let answer = after.answer;
@@ -183,13 +184,13 @@ pub fn abandon(head: Head, cells: &mut [u64], tsn: u32) -> SaidFreed
     }
 }
 
-// The bytes that the entry held.
+// The entry of a TSN is acknowledged; the value is the bytes that it held.
 pub fn acknowledge(head: Head, cells: &mut [u64], tsn: u32) -> Said
-    ensures { λ r. ⌜ Acknowledges tsn head (now (cells .entry)) (r .head) (now (cells .exit)) (r .reply) ⌝ }
+    ensures { λ r. ⌜ Acknowledge tsn head (now (cells .entry)) (r .head) (now (cells .exit)) (r .reply) ⌝ }
 {
     let after = sender_calls::flight::acknowledge(head, cells, tsn);
-    let bytes = after.bytes as u64;
-    let reply = flat::replies::number(bytes);
+    let answer = after.bytes;
+    let reply = flat::replies::number(answer as u64);
     let rest = after.head;
     Said {
         head: rest,
@@ -197,12 +198,13 @@ pub fn acknowledge(head: Head, cells: &mut [u64], tsn: u32) -> Said
     }
 }
 
+// Takes the oldest entry, if it has this TSN.
 pub fn pop(head: Head, cells: &mut [u64], tsn: u32) -> SaidFragment
-    ensures { λ r. ⌜ Pops tsn head (now (cells .entry)) (r .head) (now (cells .exit)) (r .reply) ⌝ }
+    ensures { λ r. ⌜ Pop tsn head (now (cells .entry)) (r .head) (now (cells .exit)) (r .reply) ⌝ }
 {
     let after = sender_calls::flight::pop(head, cells, tsn);
-    let front = after.front;
-    let reply = flat::replies::found(tsn, front);
+    let answer = after.front;
+    let reply = flat::replies::found(tsn, answer);
     let rest = after.head;
     SaidFragment {
         head: rest,
@@ -210,8 +212,9 @@ pub fn pop(head: Head, cells: &mut [u64], tsn: u32) -> SaidFragment
     }
 }
 
+// Every entry that is neither acknowledged nor abandoned is to be retransmitted.
 pub fn mark_all(head: Head, cells: &mut [u64]) -> Said
-    ensures { λ r. ⌜ Marks head (now (cells .entry)) (r .head) (now (cells .exit)) (r .reply) ⌝ }
+    ensures { λ r. ⌜ MarkAll head (now (cells .entry)) (r .head) (now (cells .exit)) (r .reply) ⌝ }
 {
     sender_calls::flight::mark_all(head, cells);
     let reply = flat::replies::only(0);
@@ -221,9 +224,9 @@ pub fn mark_all(head: Head, cells: &mut [u64]) -> Said
     }
 }
 
-// How many TSNs stand in front of the lent list. Head and cells stay. Refusals: 1, 11.
+// The TSNs in flight whose message has expired, in the front of the lent list; the value is how many. The sender stays. Refusals: 1, 11.
 pub fn expired_inflight(head: Head, cells: &mut [u64], list: &mut [u32], clock: u64) -> Said
-    ensures { λ r. ⌜ Lists (roomIn (now (cells .entry))) (now (list .entry)) clock head (now (cells .entry)) (r .head) (now (cells .exit)) (now (list .exit)) (r .reply) ⌝ }
+    ensures { λ r. ⌜ ExpiredInflight (roomIn (now (cells .entry))) (now (list .entry)) clock head (now (cells .entry)) (r .head) (now (cells .exit)) (now (list .exit)) (r .reply) ⌝ }
 {
     let answer = sender_calls::flight::expired_inflight(head, cells, clock, list);
     let reply = flat::replies::listed(answer);
@@ -235,14 +238,15 @@ pub fn expired_inflight(head: Head, cells: &mut [u64], list: &mut [u32], clock: 
 
 // The entry of a TSN.
 pub fn get(head: Head, cells: &[u64], tsn: u32) -> Fragment
-    ensures { λ r. ⌜ Gets tsn head (now (cells .entry)) r ⌝ }
+    ensures { λ r. ⌜ Get tsn head (now (cells .entry)) r ⌝ }
 {
     let answer = sender_asks::get(head, cells, tsn);
     flat::replies::found(tsn, answer)
 }
 
+// Whether the message of a TSN was given up. No for a TSN that is not in flight.
 pub fn is_abandoned(head: Head, cells: &[u64], tsn: u32) -> Reply
-    ensures { λ r. ⌜ AsksAbandoned tsn head (now (cells .entry)) r ⌝ }
+    ensures { λ r. ⌜ IsAbandoned tsn head (now (cells .entry)) r ⌝ }
 {
     let answer = sender_asks::is_abandoned(head, cells, tsn);
     flat::replies::yes_or_no(answer)
@@ -250,12 +254,13 @@ pub fn is_abandoned(head: Head, cells: &[u64], tsn: u32) -> Reply
 
 // The chunk that is sent next; it has no TSN yet.
 pub fn peek_pending(head: Head, cells: &[u64]) -> Fragment
-    ensures { λ r. ⌜ Peeks head (now (cells .entry)) r ⌝ }
+    ensures { λ r. ⌜ PeekPending head (now (cells .entry)) r ⌝ }
 {
     let answer = sender_asks::peek_pending(head, cells);
     flat::replies::found(0, answer)
 }
 
+// The number of the next message.
 pub fn next_message(head: Head, cells: &[u64]) -> Reply
     ensures { λ r. ⌜ NextMessage head (now (cells .entry)) r ⌝ }
 {
@@ -263,6 +268,7 @@ pub fn next_message(head: Head, cells: &[u64]) -> Reply
     flat::replies::number(answer)
 }
 
+// The TSN of the next chunk that is sent.
 pub fn next_tsn(head: Head, cells: &[u64]) -> Reply
     ensures { λ r. ⌜ NextTsn head (now (cells .entry)) r ⌝ }
 {
@@ -270,6 +276,7 @@ pub fn next_tsn(head: Head, cells: &[u64]) -> Reply
     flat::replies::number(answer as u64)
 }
 
+// How many chunks are pending.
 pub fn pending_length(head: Head, cells: &[u64]) -> Reply
     ensures { λ r. ⌜ PendingLength head (now (cells .entry)) r ⌝ }
 {
@@ -277,6 +284,7 @@ pub fn pending_length(head: Head, cells: &[u64]) -> Reply
     flat::replies::number(answer as u64)
 }
 
+// How many bytes are pending.
 pub fn pending_bytes(head: Head, cells: &[u64]) -> Reply
     ensures { λ r. ⌜ PendingBytes head (now (cells .entry)) r ⌝ }
 {
@@ -284,6 +292,7 @@ pub fn pending_bytes(head: Head, cells: &[u64]) -> Reply
     flat::replies::number(answer)
 }
 
+// How many entries the flight has.
 pub fn inflight_length(head: Head, cells: &[u64]) -> Reply
     ensures { λ r. ⌜ InflightLength head (now (cells .entry)) r ⌝ }
 {
@@ -291,6 +300,7 @@ pub fn inflight_length(head: Head, cells: &[u64]) -> Reply
     flat::replies::number(answer as u64)
 }
 
+// How many bytes the entries in flight hold.
 pub fn inflight_bytes(head: Head, cells: &[u64]) -> Reply
     ensures { λ r. ⌜ InflightBytes head (now (cells .entry)) r ⌝ }
 {
@@ -298,56 +308,57 @@ pub fn inflight_bytes(head: Head, cells: &[u64]) -> Reply
     flat::replies::number(answer)
 }
 
+// The oldest TSN that is neither acknowledged nor abandoned, where `yes` is set.
 pub fn earliest_outstanding(head: Head, cells: &[u64]) -> Reply
-    ensures { λ r. ⌜ Earliest head (now (cells .entry)) r ⌝ }
+    ensures { λ r. ⌜ EarliestOutstanding head (now (cells .entry)) r ⌝ }
 {
     let answer = sender_asks::earliest_outstanding(head, cells);
     flat::replies::earliest(answer)
 }
 
-// Whether the stream has chunks pending.
+// Whether a stream has chunks pending.
 pub fn pending_contains_stream(head: Head, cells: &[u64], identifier: u16) -> Reply
-    ensures { λ r. ⌜ PendingContains identifier head (now (cells .entry)) r ⌝ }
+    ensures { λ r. ⌜ PendingContainsStream identifier head (now (cells .entry)) r ⌝ }
 {
     let answer = sender_asks::pending_contains_stream(head, cells, identifier);
     flat::replies::yes_or_no(answer)
 }
 
-// Whether it has chunks pending or in flight.
+// Whether a stream has chunks pending or in flight.
 pub fn contains_stream(head: Head, cells: &[u64], identifier: u16) -> Reply
-    ensures { λ r. ⌜ Contains identifier head (now (cells .entry)) r ⌝ }
+    ensures { λ r. ⌜ ContainsStream identifier head (now (cells .entry)) r ⌝ }
 {
     let answer = sender_asks::contains_stream(head, cells, identifier);
     flat::replies::yes_or_no(answer)
 }
 
-// Refusal: 3.
+// How many bytes of a stream are written and not yet released. Refusal: 3.
 pub fn buffered_amount(head: Head, cells: &[u64], identifier: u16) -> Reply
-    ensures { λ r. ⌜ Buffered identifier head (now (cells .entry)) r ⌝ }
+    ensures { λ r. ⌜ BufferedAmount identifier head (now (cells .entry)) r ⌝ }
 {
     let answer = sender_asks::buffered_amount(head, cells, identifier);
     flat::replies::amount(answer)
 }
 
-// Refusal: 3.
+// The low threshold of a stream. Refusal: 3.
 pub fn low_threshold(head: Head, cells: &[u64], identifier: u16) -> Reply
-    ensures { λ r. ⌜ Low identifier head (now (cells .entry)) r ⌝ }
+    ensures { λ r. ⌜ LowThreshold identifier head (now (cells .entry)) r ⌝ }
 {
     let answer = sender_asks::low_threshold(head, cells, identifier);
     flat::replies::amount(answer)
 }
 
-// Refusal: 3.
+// The high threshold of a stream. Refusal: 3.
 pub fn high_threshold(head: Head, cells: &[u64], identifier: u16) -> Reply
-    ensures { λ r. ⌜ High identifier head (now (cells .entry)) r ⌝ }
+    ensures { λ r. ⌜ HighThreshold identifier head (now (cells .entry)) r ⌝ }
 {
     let answer = sender_asks::high_threshold(head, cells, identifier);
     flat::replies::amount(answer)
 }
 
-// Refusal: 3.
+// Messages and bytes sent on a stream. Refusal: 3.
 pub fn statistics(head: Head, cells: &[u64], identifier: u16) -> Counts
-    ensures { λ r. ⌜ Tallied identifier head (now (cells .entry)) r ⌝ }
+    ensures { λ r. ⌜ Statistics identifier head (now (cells .entry)) r ⌝ }
 {
     let answer = sender_asks::statistics(head, cells, identifier);
     flat::replies::counted(answer)

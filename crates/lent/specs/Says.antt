@@ -1,5 +1,5 @@
 -- The flat layer's relations, of a whole sender of 01's sizes before and after. A contract and its proof cite these by name, so that an edit of
--- one of them is refused at the fact that no longer follows.
+-- one of them is refused at the fact that no longer follows. Written by tools/thin from tools/calls.table.
 use mathlib.Core.Bool.{Bool}
 use mathlib.Core.List.{List}
 use Prim.Native.Nat.{ℕ}
@@ -14,104 +14,136 @@ use Rattle.lent.specs.declared.Sender.{Sender}
 
 -- ---- a fresh sender, and its streams
 
+-- A fresh sender, whatever the bytes were: the first chunk takes the TSN `tsn`, the first message the number `number`. The cells stay.
 abbrev pub Init : (tsn number : ℕ) → Sender → Sender → Reply → Type 0
-Init tsn number s s′ y = Flat.Inits tsn number (s .head) (s .cells) (s′ .head) (s′ .cells) y
+Init tsn number s s′ y = Flat.Init tsn number (s .head) (s .cells) (s′ .head) (s′ .cells) y
 
-abbrev pub Open : (identifier maximum : ℕ) → Sender → Sender → Reply → Type 0
-Open identifier maximum s s′ y = Flat.Opens room01 identifier maximum (s .head) (s .cells) (s′ .head) (s′ .cells) y
+-- A new stream: ordered, Reliable, and never high. Refusals: 2, 4, 5.
+abbrev pub OpenStream : (identifier maximum : ℕ) → Sender → Sender → Reply → Type 0
+OpenStream identifier maximum s s′ y = Flat.OpenStream room01 identifier maximum (s .head) (s .cells) (s′ .head) (s′ .cells) y
 
+-- How messages that are written from now on are delivered. Refusal: 3.
 abbrev pub SetReliability : (identifier : ℕ) → (unordered : Bool) → (kind value : ℕ) → Sender → Sender → Reply → Type 0
-SetReliability identifier unordered kind value s s′ y = Flat.SetsReliability identifier unordered kind value (s .head) (s .cells) (s′ .head) (s′ .cells) y
+SetReliability identifier unordered kind value s s′ y = Flat.SetReliability identifier unordered kind value (s .head) (s .cells) (s′ .head) (s′ .cells) y
 
-abbrev pub SetLow : (identifier low : ℕ) → Sender → Sender → Reply → Type 0
-SetLow identifier low s s′ y = Flat.SetsLow identifier low (s .head) (s .cells) (s′ .head) (s′ .cells) y
+-- A release that brings the buffered amount from above this to it or below is answered yes. Refusal: 3.
+abbrev pub SetLowThreshold : (identifier low : ℕ) → Sender → Sender → Reply → Type 0
+SetLowThreshold identifier low s s′ y = Flat.SetLowThreshold identifier low (s .head) (s .cells) (s′ .head) (s′ .cells) y
 
-abbrev pub SetHigh : (identifier high : ℕ) → Sender → Sender → Reply → Type 0
-SetHigh identifier high s s′ y = Flat.SetsHigh identifier high (s .head) (s .cells) (s′ .head) (s′ .cells) y
+-- A message that brings the buffered amount from below this to it or above is answered yes. Refusal: 3.
+abbrev pub SetHighThreshold : (identifier high : ℕ) → Sender → Sender → Reply → Type 0
+SetHighThreshold identifier high s s′ y = Flat.SetHighThreshold identifier high (s .head) (s .cells) (s′ .head) (s′ .cells) y
 
+-- Bytes of a stream have left the sender; `yes` where the amount fell to the low threshold. Refusal: 3.
 abbrev pub Release : (identifier : ℕ) → (released : ℤ) → Sender → Sender → Reply → Type 0
-Release identifier released s s′ y = Flat.Releases identifier released (s .head) (s .cells) (s′ .head) (s′ .cells) y
+Release identifier released s s′ y = Flat.Release identifier released (s .head) (s .cells) (s′ .head) (s′ .cells) y
 
 -- ---- messages
 
+-- The caller keeps the bytes: a message is where they begin and how many they are. `yes` where the amount reached the high threshold. Refusals: 3, 6, 1, 7, 8, 9.
 abbrev pub Write : (identifier protocol offset length : ℕ) → Sender → Sender → Reply → Type 0
-Write identifier protocol offset length s s′ y = Flat.Writes room01 identifier protocol offset length (s .head) (s .cells) (s′ .head) (s′ .cells) y
+Write identifier protocol offset length s s′ y = Flat.Write room01 identifier protocol offset length (s .head) (s .cells) (s′ .head) (s′ .cells) y
 
+-- Starts the lifetimes of the messages not yet seen. Refusal: 1.
 abbrev pub StartLifetimes : (clock : ℕ) → Sender → Sender → Reply → Type 0
-StartLifetimes clock s s′ y = Flat.Starts room01 clock (s .head) (s .cells) (s′ .head) (s′ .cells) y
+StartLifetimes clock s s′ y = Flat.StartLifetimes room01 clock (s .head) (s .cells) (s′ .head) (s′ .cells) y
 
+-- The next chunk goes to the flight. Refusals: 1; 10 where a chunk is pending.
 abbrev pub Send : (clock : ℕ) → Sender → Sender → Fragment → Type 0
-Send clock s s′ y = Flat.Sends room01 clock (s .head) (s .cells) (s′ .head) (s′ .cells) y
+Send clock s s′ y = Flat.Send room01 clock (s .head) (s .cells) (s′ .head) (s′ .cells) y
 
+-- The message at the head goes if it is due, and takes no TSN. Refusal: 1.
 abbrev pub ExpirePending : (clock : ℕ) → Sender → Sender → Freed → Type 0
-ExpirePending clock s s′ y = Flat.Expires room01 clock (s .head) (s .cells) (s′ .head) (s′ .cells) y
+ExpirePending clock s s′ y = Flat.ExpirePending room01 clock (s .head) (s .cells) (s′ .head) (s′ .cells) y
 
+-- Abandons the message under way, if its rest has expired. Refusal: 1.
 abbrev pub ExpirePendingTail : (clock : ℕ) → Sender → Sender → Freed → Type 0
-ExpirePendingTail clock s s′ y = Flat.ExpiresTail room01 clock (s .head) (s .cells) (s′ .head) (s′ .cells) y
+ExpirePendingTail clock s s′ y = Flat.ExpirePendingTail room01 clock (s .head) (s .cells) (s′ .head) (s′ .cells) y
 
+-- Abandons the message of a TSN in flight.
 abbrev pub Abandon : (tsn : ℕ) → Sender → Sender → Freed → Type 0
-Abandon tsn s s′ y = Flat.Abandons room01 tsn (s .head) (s .cells) (s′ .head) (s′ .cells) y
+Abandon tsn s s′ y = Flat.Abandon room01 tsn (s .head) (s .cells) (s′ .head) (s′ .cells) y
 
 -- ---- the flight
 
+-- The entry of a TSN is acknowledged; the value is the bytes that it held.
 abbrev pub Acknowledge : (tsn : ℕ) → Sender → Sender → Reply → Type 0
-Acknowledge tsn s s′ y = Flat.Acknowledges tsn (s .head) (s .cells) (s′ .head) (s′ .cells) y
+Acknowledge tsn s s′ y = Flat.Acknowledge tsn (s .head) (s .cells) (s′ .head) (s′ .cells) y
 
+-- Takes the oldest entry, if it has this TSN.
 abbrev pub Pop : (tsn : ℕ) → Sender → Sender → Fragment → Type 0
-Pop tsn s s′ y = Flat.Pops tsn (s .head) (s .cells) (s′ .head) (s′ .cells) y
+Pop tsn s s′ y = Flat.Pop tsn (s .head) (s .cells) (s′ .head) (s′ .cells) y
 
+-- Every entry that is neither acknowledged nor abandoned is to be retransmitted.
 abbrev pub MarkAll : Sender → Sender → Reply → Type 0
-MarkAll s s′ y = Flat.Marks (s .head) (s .cells) (s′ .head) (s′ .cells) y
+MarkAll s s′ y = Flat.MarkAll (s .head) (s .cells) (s′ .head) (s′ .cells) y
 
-abbrev pub ExpiredInflight : (list : List ℕ) → (clock : ℕ) → Sender → Sender → (list′ : List ℕ) → Reply → Type 0
-ExpiredInflight list clock s s′ list′ y = Flat.Lists room01 list clock (s .head) (s .cells) (s′ .head) (s′ .cells) list′ y
+-- The TSNs in flight whose message has expired, in the front of the lent list; the value is how many. The sender stays. Refusals: 1, 11.
+abbrev pub ExpiredInflight : (list : List ℕ) → (clock : ℕ) → Sender → Sender → List ℕ → Reply → Type 0
+ExpiredInflight list clock s s′ list′ y = Flat.ExpiredInflight room01 list clock (s .head) (s .cells) (s′ .head) (s′ .cells) list′ y
 
 -- ---- questions
 
+-- The entry of a TSN.
 abbrev pub Get : (tsn : ℕ) → Sender → Fragment → Type 0
-Get tsn s y = Flat.Gets tsn (s .head) (s .cells) y
+Get tsn s y = Flat.Get tsn (s .head) (s .cells) y
 
+-- Whether the message of a TSN was given up. No for a TSN that is not in flight.
 abbrev pub IsAbandoned : (tsn : ℕ) → Sender → Reply → Type 0
-IsAbandoned tsn s y = Flat.AsksAbandoned tsn (s .head) (s .cells) y
+IsAbandoned tsn s y = Flat.IsAbandoned tsn (s .head) (s .cells) y
 
+-- The chunk that is sent next; it has no TSN yet.
 abbrev pub PeekPending : Sender → Fragment → Type 0
-PeekPending s y = Flat.Peeks (s .head) (s .cells) y
+PeekPending s y = Flat.PeekPending (s .head) (s .cells) y
 
+-- The number of the next message.
 abbrev pub NextMessage : Sender → Reply → Type 0
 NextMessage s y = Flat.NextMessage (s .head) (s .cells) y
 
+-- The TSN of the next chunk that is sent.
 abbrev pub NextTsn : Sender → Reply → Type 0
 NextTsn s y = Flat.NextTsn (s .head) (s .cells) y
 
+-- How many chunks are pending.
 abbrev pub PendingLength : Sender → Reply → Type 0
 PendingLength s y = Flat.PendingLength (s .head) (s .cells) y
 
+-- How many bytes are pending.
 abbrev pub PendingBytes : Sender → Reply → Type 0
 PendingBytes s y = Flat.PendingBytes (s .head) (s .cells) y
 
+-- How many entries the flight has.
 abbrev pub InflightLength : Sender → Reply → Type 0
 InflightLength s y = Flat.InflightLength (s .head) (s .cells) y
 
+-- How many bytes the entries in flight hold.
 abbrev pub InflightBytes : Sender → Reply → Type 0
 InflightBytes s y = Flat.InflightBytes (s .head) (s .cells) y
 
+-- The oldest TSN that is neither acknowledged nor abandoned, where `yes` is set.
 abbrev pub EarliestOutstanding : Sender → Reply → Type 0
-EarliestOutstanding s y = Flat.Earliest (s .head) (s .cells) y
+EarliestOutstanding s y = Flat.EarliestOutstanding (s .head) (s .cells) y
 
+-- Whether a stream has chunks pending.
 abbrev pub PendingContainsStream : (identifier : ℕ) → Sender → Reply → Type 0
-PendingContainsStream identifier s y = Flat.PendingContains identifier (s .head) (s .cells) y
+PendingContainsStream identifier s y = Flat.PendingContainsStream identifier (s .head) (s .cells) y
 
+-- Whether a stream has chunks pending or in flight.
 abbrev pub ContainsStream : (identifier : ℕ) → Sender → Reply → Type 0
-ContainsStream identifier s y = Flat.Contains identifier (s .head) (s .cells) y
+ContainsStream identifier s y = Flat.ContainsStream identifier (s .head) (s .cells) y
 
+-- How many bytes of a stream are written and not yet released. Refusal: 3.
 abbrev pub BufferedAmount : (identifier : ℕ) → Sender → Reply → Type 0
-BufferedAmount identifier s y = Flat.Buffered identifier (s .head) (s .cells) y
+BufferedAmount identifier s y = Flat.BufferedAmount identifier (s .head) (s .cells) y
 
+-- The low threshold of a stream. Refusal: 3.
 abbrev pub LowThreshold : (identifier : ℕ) → Sender → Reply → Type 0
-LowThreshold identifier s y = Flat.Low identifier (s .head) (s .cells) y
+LowThreshold identifier s y = Flat.LowThreshold identifier (s .head) (s .cells) y
 
+-- The high threshold of a stream. Refusal: 3.
 abbrev pub HighThreshold : (identifier : ℕ) → Sender → Reply → Type 0
-HighThreshold identifier s y = Flat.High identifier (s .head) (s .cells) y
+HighThreshold identifier s y = Flat.HighThreshold identifier (s .head) (s .cells) y
 
+-- Messages and bytes sent on a stream. Refusal: 3.
 abbrev pub Statistics : (identifier : ℕ) → Sender → Counts → Type 0
-Statistics identifier s y = Flat.Tallied identifier (s .head) (s .cells) y
+Statistics identifier s y = Flat.Statistics identifier (s .head) (s .cells) y

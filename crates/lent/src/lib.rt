@@ -1,12 +1,12 @@
 // 01's sender as a host holds it: one struct, and thin functions over a reference to it. Each lends the cells to a function of the flat layer,
 // and copies the head out and in; no call copies the cells. A host that hands over any bytes at all is safe: each bit pattern of the struct is a
-// sender.
+// sender. Written by tools/thin from tools/calls.table.
 use flat::Counts;
 use flat::Fragment;
 use flat::Freed;
 use flat::Reply;
 use sender_head::Head;
-ghost use Rattle.lent.specs.Says.{Init, Open, SetReliability, SetLow, SetHigh, Release, Write, StartLifetimes, Send, ExpirePending, ExpirePendingTail, Abandon};
+ghost use Rattle.lent.specs.Says.{Init, OpenStream, SetReliability, SetLowThreshold, SetHighThreshold, Release, Write, StartLifetimes, Send, ExpirePending, ExpirePendingTail, Abandon};
 ghost use Rattle.lent.specs.Says.{Acknowledge, Pop, MarkAll, ExpiredInflight, Get, IsAbandoned, PeekPending, NextMessage, NextTsn, PendingLength, PendingBytes, InflightLength};
 ghost use Rattle.lent.specs.Says.{InflightBytes, EarliestOutstanding, PendingContainsStream, ContainsStream, BufferedAmount, LowThreshold, HighThreshold, Statistics};
 
@@ -19,7 +19,7 @@ pub struct Sender {
 
 // ---- a fresh sender, and its streams
 
-// A fresh sender, whatever the bytes were: the first chunk takes the TSN `tsn`, the first message the number `number`.
+// A fresh sender, whatever the bytes were: the first chunk takes the TSN `tsn`, the first message the number `number`. The cells stay.
 #[no_mangle]
 pub extern "C" fn girdermoth_init(s: &mut Sender, tsn: u32, number: u64) -> Reply
     ensures { λ r. ⌜ Init tsn number (now (s .entry)) (now (s .exit)) r ⌝ }
@@ -32,7 +32,7 @@ pub extern "C" fn girdermoth_init(s: &mut Sender, tsn: u32, number: u64) -> Repl
 // A new stream: ordered, Reliable, and never high. Refusals: 2, 4, 5.
 #[no_mangle]
 pub extern "C" fn girdermoth_open_stream(s: &mut Sender, identifier: u16, maximum: u32) -> Reply
-    ensures { λ r. ⌜ Open identifier maximum (now (s .entry)) (now (s .exit)) r ⌝ }
+    ensures { λ r. ⌜ OpenStream identifier maximum (now (s .entry)) (now (s .exit)) r ⌝ }
 {
     let r = flat_calls::open_stream(s.head, &mut s.cells, identifier, maximum);
     s.head = r.head;
@@ -55,20 +55,20 @@ pub extern "C" fn girdermoth_set_reliability(
     r.reply
 }
 
-// Refusal: 3.
+// A release that brings the buffered amount from above this to it or below is answered yes. Refusal: 3.
 #[no_mangle]
 pub extern "C" fn girdermoth_set_low_threshold(s: &mut Sender, identifier: u16, low: u64) -> Reply
-    ensures { λ r. ⌜ SetLow identifier low (now (s .entry)) (now (s .exit)) r ⌝ }
+    ensures { λ r. ⌜ SetLowThreshold identifier low (now (s .entry)) (now (s .exit)) r ⌝ }
 {
     let r = flat_calls::set_low_threshold(s.head, &mut s.cells, identifier, low);
     s.head = r.head;
     r.reply
 }
 
-// Refusal: 3.
+// A message that brings the buffered amount from below this to it or above is answered yes. Refusal: 3.
 #[no_mangle]
 pub extern "C" fn girdermoth_set_high_threshold(s: &mut Sender, identifier: u16, high: u64) -> Reply
-    ensures { λ r. ⌜ SetHigh identifier high (now (s .entry)) (now (s .exit)) r ⌝ }
+    ensures { λ r. ⌜ SetHighThreshold identifier high (now (s .entry)) (now (s .exit)) r ⌝ }
 {
     let r = flat_calls::set_high_threshold(s.head, &mut s.cells, identifier, high);
     s.head = r.head;
@@ -205,7 +205,7 @@ pub extern "C" fn girdermoth_get(s: &Sender, tsn: u32) -> Fragment
     flat_calls::get(s.head, &s.cells, tsn)
 }
 
-// No for a TSN that is not in flight.
+// Whether the message of a TSN was given up. No for a TSN that is not in flight.
 #[no_mangle]
 pub extern "C" fn girdermoth_is_abandoned(s: &Sender, tsn: u32) -> Reply
     ensures { λ r. ⌜ IsAbandoned tsn (now (s .entry)) r ⌝ }
@@ -237,6 +237,7 @@ pub extern "C" fn girdermoth_next_tsn(s: &Sender) -> Reply
     flat_calls::next_tsn(s.head, &s.cells)
 }
 
+// How many chunks are pending.
 #[no_mangle]
 pub extern "C" fn girdermoth_pending_length(s: &Sender) -> Reply
     ensures { λ r. ⌜ PendingLength (now (s .entry)) r ⌝ }
@@ -244,6 +245,7 @@ pub extern "C" fn girdermoth_pending_length(s: &Sender) -> Reply
     flat_calls::pending_length(s.head, &s.cells)
 }
 
+// How many bytes are pending.
 #[no_mangle]
 pub extern "C" fn girdermoth_pending_bytes(s: &Sender) -> Reply
     ensures { λ r. ⌜ PendingBytes (now (s .entry)) r ⌝ }
@@ -251,6 +253,7 @@ pub extern "C" fn girdermoth_pending_bytes(s: &Sender) -> Reply
     flat_calls::pending_bytes(s.head, &s.cells)
 }
 
+// How many entries the flight has.
 #[no_mangle]
 pub extern "C" fn girdermoth_inflight_length(s: &Sender) -> Reply
     ensures { λ r. ⌜ InflightLength (now (s .entry)) r ⌝ }
@@ -258,6 +261,7 @@ pub extern "C" fn girdermoth_inflight_length(s: &Sender) -> Reply
     flat_calls::inflight_length(s.head, &s.cells)
 }
 
+// How many bytes the entries in flight hold.
 #[no_mangle]
 pub extern "C" fn girdermoth_inflight_bytes(s: &Sender) -> Reply
     ensures { λ r. ⌜ InflightBytes (now (s .entry)) r ⌝ }
@@ -289,7 +293,7 @@ pub extern "C" fn girdermoth_contains_stream(s: &Sender, identifier: u16) -> Rep
     flat_calls::contains_stream(s.head, &s.cells, identifier)
 }
 
-// Refusal: 3.
+// How many bytes of a stream are written and not yet released. Refusal: 3.
 #[no_mangle]
 pub extern "C" fn girdermoth_buffered_amount(s: &Sender, identifier: u16) -> Reply
     ensures { λ r. ⌜ BufferedAmount identifier (now (s .entry)) r ⌝ }
@@ -297,7 +301,7 @@ pub extern "C" fn girdermoth_buffered_amount(s: &Sender, identifier: u16) -> Rep
     flat_calls::buffered_amount(s.head, &s.cells, identifier)
 }
 
-// Refusal: 3.
+// The low threshold of a stream. Refusal: 3.
 #[no_mangle]
 pub extern "C" fn girdermoth_low_threshold(s: &Sender, identifier: u16) -> Reply
     ensures { λ r. ⌜ LowThreshold identifier (now (s .entry)) r ⌝ }
@@ -305,7 +309,7 @@ pub extern "C" fn girdermoth_low_threshold(s: &Sender, identifier: u16) -> Reply
     flat_calls::low_threshold(s.head, &s.cells, identifier)
 }
 
-// Refusal: 3.
+// The high threshold of a stream. Refusal: 3.
 #[no_mangle]
 pub extern "C" fn girdermoth_high_threshold(s: &Sender, identifier: u16) -> Reply
     ensures { λ r. ⌜ HighThreshold identifier (now (s .entry)) r ⌝ }
@@ -313,7 +317,7 @@ pub extern "C" fn girdermoth_high_threshold(s: &Sender, identifier: u16) -> Repl
     flat_calls::high_threshold(s.head, &s.cells, identifier)
 }
 
-// Messages and bytes sent. Refusal: 3.
+// Messages and bytes sent on a stream. Refusal: 3.
 #[no_mangle]
 pub extern "C" fn girdermoth_statistics(s: &Sender, identifier: u16) -> Counts
     ensures { λ r. ⌜ Statistics identifier (now (s .entry)) r ⌝ }

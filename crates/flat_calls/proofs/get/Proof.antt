@@ -1,23 +1,14 @@
--- The question over a head, of which the answer is flat.
-use denote.Ref.{now}
-use Rattle.model.specs.State.{Sender, inFlight}
-use Rattle.model.specs.Flight.{found}
+-- `flat_calls::get` meets its contract: the call below does the same, and its answer is flat.
 use Rattle.flat.specs.Replies.{flatFound}
 use Rattle.flat.specs.Calls.{asks}
 use borrow.Author.Needs.{needs}
 use Rattle.flat_calls.proofs.get.Statement.{statement}
 use Rattle.flat_calls.proofs.get.Tie as tie
 
-get-requires : tie.Need-get-requires
-get-requires c κs = search needs
-
-found-requires : tie.Need-found-requires
-found-requires c κs = search needs
-
-returns : tie.Need-returns
-returns c =
-    let a = c .before .before .before .args in
-    asks (flatFound (a .tsn)) (a .head) (now (a .cells)) (c .found .ensures) (λ (s : Sender). found (inFlight (a .tsn) (s .flight))) (c .before .get .ensures)
-
 pub get-spec : {M : Type 1} → statement M
-get-spec = tie.close (tie.spec get-requires found-requires returns)
+get-spec =
+    tie.close
+    (tie.spec
+    (λ c κs. search needs)
+    (λ c κs. search needs)
+    (λ c. asks (flatFound (c .before .before .before .args .tsn)) (c .found .ensures) (c .before .get .ensures)))

@@ -1,21 +1,14 @@
--- A fresh head, and nothing is stored.
-use mathlib.Core.Path.{refl}
+-- `flat_calls::init` meets its contract: the call below does the same, and its answer is flat.
 use denote.Ref.{now}
+use Rattle.flat.specs.Calls.{makes}
 use borrow.Author.Needs.{needs}
 use Rattle.flat_calls.proofs.init.Statement.{statement}
 use Rattle.flat_calls.proofs.init.Tie as tie
 
-new-requires : tie.Need-new-requires
-new-requires c κs = search needs
-
-only-requires : tie.Need-only-requires
-only-requires c κs = search needs
-
-returns : tie.Need-returns
-returns c =
-    let ws = now (c .before .before .before .args .cells) in
-    let fresh = c .before .new .ensures ws in
-    (fresh .0, (fresh .1, (refl, c .only .ensures)))
-
 pub init-spec : {M : Type 1} → statement M
-init-spec = tie.close (tie.spec new-requires only-requires returns)
+init-spec =
+    tie.close
+    (tie.spec
+    (λ c κs. search needs)
+    (λ c κs. search needs)
+    (λ c. makes (c .only .ensures) (c .before .new .ensures (now (c .before .before .before .args .cells)))))

@@ -1,24 +1,14 @@
--- The question over a head, of which the answer is flat.
-use denote.Ref.{now}
-use Rattle.model.specs.State.{Sender}
-use Rattle.model.specs.Streams.{find, counts}
+-- `flat_calls::statistics` meets its contract: the call below does the same, and its answer is flat.
 use Rattle.flat.specs.Replies.{flatCounted}
 use Rattle.flat.specs.Calls.{asks}
 use borrow.Author.Needs.{needs}
 use Rattle.flat_calls.proofs.statistics.Statement.{statement}
 use Rattle.flat_calls.proofs.statistics.Tie as tie
 
-statistics-requires : tie.Need-statistics-requires
-statistics-requires c κs = search needs
-
-counted-requires : tie.Need-counted-requires
-counted-requires c κs = search needs
-
-returns : tie.Need-returns
-returns c =
-    let a = c .before .before .before .args in
-    asks flatCounted (a .head) (now (a .cells)) (c .counted .ensures) (λ (s : Sender). counts (find (a .identifier) (s .streams))) (c .before .statistics .ensures)
-
 pub statistics-spec : {M : Type 1} → statement M
 statistics-spec =
-    tie.close (tie.spec statistics-requires counted-requires returns)
+    tie.close
+    (tie.spec
+    (λ c κs. search needs)
+    (λ c κs. search needs)
+    (λ c. asks flatCounted (c .counted .ensures) (c .before .statistics .ensures)))

@@ -10,7 +10,7 @@ use Rattle.sender_head.specs.Whole.{roomIn}
 use Rattle.sender.specs.Sizes.{sizes}
 use Rattle.walkkit.proofs.Lent.{of-uint}
 use Rattle.walkkit.proofs.OnHead.{on-head-1}
-use Rattle.flat_calls.specs.Says.{Expires}
+use Rattle.flat_calls.specs.Says as Flat
 use Rattle.lent.specs.Says.{ExpirePending}
 use Rattle.lent.proofs.Shapes.{head, freed, state, said-freed}
 use Rattle.sender_head.proofs.Head as D
@@ -33,7 +33,7 @@ girdermoth-expire-pending-spec 𝓤 H 𝓜 𝓖 𝓡 =
     entered 𝓤 H (tripleOf 𝓤 H (𝓖 .A) f.signature (f.spec 𝓤 H (𝓖 .A) (𝓜 .mem) (𝓡 .run)))
     (tables 𝓤 H 𝓜 𝓡 code.env .C) (tables 𝓤 H 𝓜 𝓡 code.env .Λ) #f code.function (code.unfolded 𝓤 H 𝓜 𝓡)
     (on-head-1 𝓤 H (𝓖 .A) W R.the-row D.the-row N.the-row S.the-row (head 𝓤 H (𝓖 .A) W) (freed 𝓤 H (𝓖 .A) W) (state 𝓤 H (𝓖 .A) W) (said-freed 𝓤 H (𝓖 .A) W) (UInt w64) (of-uint 𝓤 H (𝓖 .A) W w64)
-    (λ d ws x₁ ws′ r. Expires (roomIn ws) x₁ d ws (r .head) ws′ (r .reply))
+    (λ d ws x₁ ws′ r. Flat.ExpirePending (roomIn ws) x₁ d ws (r .head) ws′ (r .reply))
     (λ h x₁ h′ y. ExpirePending x₁ h h′ y)
-    (λ h x₁ ws r e e′ j. subst (λ (room : Room). Expires room x₁ (h .head) (h .cells) (r .head) ws (r .reply)) (sizes (h .cells) e) j) #g (tablesOf 𝓤 H 𝓜 (tables 𝓤 H 𝓜 𝓡 code.env))
+    (λ h x₁ ws r e e′ j. subst (λ (room : Room). Flat.ExpirePending room x₁ (h .head) (h .cells) (r .head) ws (r .reply)) (sizes (h .cells) e) j) #g (tablesOf 𝓤 H 𝓜 (tables 𝓤 H 𝓜 𝓡 code.env))
     (cited 𝓤 H (tripleOf 𝓤 H (𝓖 .A) g.signature (g.spec 𝓤 H (𝓖 .A) (𝓜 .mem) (𝓡 .run))) 𝓜 𝓡 code.env #g g-def.routine code.calls-flat-calls·expire-pending (g-thm.met 𝓤 H 𝓜 𝓖 𝓡)))

@@ -6,7 +6,7 @@ use denote.Triple.Spec.{tripleOf}
 use denote.Triple.Table.{entered, cited}
 use Rattle.walkkit.proofs.Lent.{of-uint}
 use Rattle.walkkit.proofs.OnLook.{on-shared-1}
-use Rattle.flat_calls.specs.Says.{Low}
+use Rattle.flat_calls.specs.Says as Flat
 use Rattle.lent.specs.Says.{LowThreshold}
 use Rattle.lent.proofs.Shapes.{head, reply, state, halves}
 use Rattle.sender_head.proofs.Head as D
@@ -28,7 +28,7 @@ girdermoth-low-threshold-spec 𝓤 H 𝓜 𝓖 𝓡 =
     entered 𝓤 H (tripleOf 𝓤 H (𝓖 .A) f.signature (f.spec 𝓤 H (𝓖 .A) (𝓜 .mem) (𝓡 .run)))
     (tables 𝓤 H 𝓜 𝓡 code.env .C) (tables 𝓤 H 𝓜 𝓡 code.env .Λ) #f code.function (code.unfolded 𝓤 H 𝓜 𝓡)
     (on-shared-1 𝓤 H (𝓖 .A) W R.the-row D.the-row N.the-row (head 𝓤 H (𝓖 .A) W) (reply 𝓤 H (𝓖 .A) W) (state 𝓤 H (𝓖 .A) W) (halves 𝓤 H (𝓖 .A) W) (UInt w16) (of-uint 𝓤 H (𝓖 .A) W w16)
-    (λ d ws x₁ y. Low x₁ d ws y)
+    (λ d ws x₁ y. Flat.LowThreshold x₁ d ws y)
     (λ h x₁ y. LowThreshold x₁ h y)
     (λ h x₁ r e j. j) #g (tablesOf 𝓤 H 𝓜 (tables 𝓤 H 𝓜 𝓡 code.env))
     (cited 𝓤 H (tripleOf 𝓤 H (𝓖 .A) g.signature (g.spec 𝓤 H (𝓖 .A) (𝓜 .mem) (𝓡 .run))) 𝓜 𝓡 code.env #g g-def.routine code.calls-flat-calls·low-threshold (g-thm.met 𝓤 H 𝓜 𝓖 𝓡)))

@@ -3,7 +3,7 @@ use contract.Running.{givenOf, tables, tablesOf}
 use denote.Triple.Spec.{tripleOf}
 use denote.Triple.Table.{entered, cited}
 use Rattle.walkkit.proofs.OnLook.{on-shared-0}
-use Rattle.flat_calls.specs.Says.{Peeks}
+use Rattle.flat_calls.specs.Says as Flat
 use Rattle.lent.specs.Says.{PeekPending}
 use Rattle.lent.proofs.Shapes.{head, fragment, state, halves}
 use Rattle.sender_head.proofs.Head as D
@@ -25,7 +25,7 @@ girdermoth-peek-pending-spec 𝓤 H 𝓜 𝓖 𝓡 =
     entered 𝓤 H (tripleOf 𝓤 H (𝓖 .A) f.signature (f.spec 𝓤 H (𝓖 .A) (𝓜 .mem) (𝓡 .run)))
     (tables 𝓤 H 𝓜 𝓡 code.env .C) (tables 𝓤 H 𝓜 𝓡 code.env .Λ) #f code.function (code.unfolded 𝓤 H 𝓜 𝓡)
     (on-shared-0 𝓤 H (𝓖 .A) W R.the-row D.the-row N.the-row (head 𝓤 H (𝓖 .A) W) (fragment 𝓤 H (𝓖 .A) W) (state 𝓤 H (𝓖 .A) W) (halves 𝓤 H (𝓖 .A) W)
-    (λ d ws y. Peeks d ws y)
+    (λ d ws y. Flat.PeekPending d ws y)
     (λ h y. PeekPending h y)
     (λ h r e j. j) #g (tablesOf 𝓤 H 𝓜 (tables 𝓤 H 𝓜 𝓡 code.env))
     (cited 𝓤 H (tripleOf 𝓤 H (𝓖 .A) g.signature (g.spec 𝓤 H (𝓖 .A) (𝓜 .mem) (𝓡 .run))) 𝓜 𝓡 code.env #g g-def.routine code.calls-flat-calls·peek-pending (g-thm.met 𝓤 H 𝓜 𝓖 𝓡)))

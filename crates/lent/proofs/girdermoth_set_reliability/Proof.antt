@@ -6,7 +6,7 @@ use denote.Triple.Spec.{tripleOf}
 use denote.Triple.Table.{entered, cited}
 use Rattle.walkkit.proofs.Lent.{of-bool, of-uint}
 use Rattle.walkkit.proofs.OnHead.{on-head-4}
-use Rattle.flat_calls.specs.Says.{SetsReliability}
+use Rattle.flat_calls.specs.Says as Flat
 use Rattle.lent.specs.Says.{SetReliability}
 use Rattle.lent.proofs.Shapes.{head, reply, state, said}
 use Rattle.sender_head.proofs.Head as D
@@ -29,7 +29,7 @@ girdermoth-set-reliability-spec 𝓤 H 𝓜 𝓖 𝓡 =
     entered 𝓤 H (tripleOf 𝓤 H (𝓖 .A) f.signature (f.spec 𝓤 H (𝓖 .A) (𝓜 .mem) (𝓡 .run)))
     (tables 𝓤 H 𝓜 𝓡 code.env .C) (tables 𝓤 H 𝓜 𝓡 code.env .Λ) #f code.function (code.unfolded 𝓤 H 𝓜 𝓡)
     (on-head-4 𝓤 H (𝓖 .A) W R.the-row D.the-row N.the-row S.the-row (head 𝓤 H (𝓖 .A) W) (reply 𝓤 H (𝓖 .A) W) (state 𝓤 H (𝓖 .A) W) (said 𝓤 H (𝓖 .A) W) (UInt w16) (of-uint 𝓤 H (𝓖 .A) W w16) Boolean (of-bool 𝓤 H (𝓖 .A) W) (UInt w8) (of-uint 𝓤 H (𝓖 .A) W w8) (UInt w32) (of-uint 𝓤 H (𝓖 .A) W w32)
-    (λ d ws x₁ x₂ x₃ x₄ ws′ r. SetsReliability x₁ x₂ x₃ x₄ d ws (r .head) ws′ (r .reply))
+    (λ d ws x₁ x₂ x₃ x₄ ws′ r. Flat.SetReliability x₁ x₂ x₃ x₄ d ws (r .head) ws′ (r .reply))
     (λ h x₁ x₂ x₃ x₄ h′ y. SetReliability x₁ x₂ x₃ x₄ h h′ y)
     (λ h x₁ x₂ x₃ x₄ ws r e e′ j. j) #g (tablesOf 𝓤 H 𝓜 (tables 𝓤 H 𝓜 𝓡 code.env))
     (cited 𝓤 H (tripleOf 𝓤 H (𝓖 .A) g.signature (g.spec 𝓤 H (𝓖 .A) (𝓜 .mem) (𝓡 .run))) 𝓜 𝓡 code.env #g g-def.routine code.calls-flat-calls·set-reliability (g-thm.met 𝓤 H 𝓜 𝓖 𝓡)))
