@@ -13,6 +13,7 @@ use Rattle.timer.specs.Entries.{idleEntry, failsAt}
 use Rattle.timer.specs.Timers.{withCount, withSuppression}
 use Rattle.timer_cells.specs.Words.{isSet, momentOf, maximumOf, entryIn, withTime, Marked}
 use Rattle.timer_cells.specs.Says.{expiredOf, Expires}
+use Rattle.timer_cells.specs.declared.Step.{Step}
 
 -- ---- what a change of the marks makes of the timer
 
@@ -146,6 +147,9 @@ counted w d m h =
 -- ---- the branches of an expiry, of an entry e that the words mean
 
 module _ (d m w clock : ℕ) where
+  pub as-step : {s : Step} (r : Step) → r ≡ s → Expires d m w clock (s .marks) (s .reply) → Expires d m w clock (r .marks) (r .reply)
+  as-step r q = subst (λ (x : Step). Expires d m w clock (x .marks) (x .reply)) (sym q)
+
   pub late : clockMax < clock → Expires d m w clock w (expiredOf (Expiry.Refused 1))
   late h = record { said = simp (lt-leb _ _ h); left = simp (lt-leb _ _ h); kept = λ z. refl }
 

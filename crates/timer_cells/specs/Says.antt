@@ -26,6 +26,7 @@ use Rattle.timer_cells.specs.declared.Due.{Due}
 use Rattle.timer_cells.specs.declared.Expired.{Expired}
 use Rattle.timer_cells.specs.declared.Said.{Said}
 use Rattle.timer_cells.specs.declared.SaidExpired.{SaidExpired}
+use Rattle.timer_cells.specs.declared.Step.{Step}
 
 -- ---- replies
 
@@ -148,6 +149,10 @@ leftOf e clock =
     (cond (leb countMax (e .retrans)) e (withCount e (e .retrans + 1))))
     e)
     e
+
+-- the marks and the reply, side by side
+abbrev pub stepOf : (marks refusal count : ℕ) → (expired failure : Bool) → Step
+stepOf w n k e f = record { marks = w; reply = record { count = k; refusal = n; expired = e; failure = f } }
 
 -- both, of the timer in three words, whose marks become v; a refusal leaves them
 pub record Expires (d m w clock v : ℕ) (y : Expired) : Type 0 where

@@ -16,7 +16,7 @@ ghost use Rattle.timer.specs.Entries.{idleEntry};
 ghost use Rattle.timer.specs.Timers.{backoff, withCount, withSuppression};
 ghost use Rattle.timer.specs.declared.Expiry.the-variants.{Refused};
 ghost use Rattle.timer_cells.specs.Words.{momentOf, maximumOf, entryIn, entriesIn, withTime, Marked};
-ghost use Rattle.timer_cells.specs.Says.{dueOf, noDue, saidOf, saidExpiry, Expires, Creates, Sets, Starts, Restarts, Stops, Resets, Suppresses, Gets, Checks, NextTimeout};
+ghost use Rattle.timer_cells.specs.Says.{dueOf, noDue, saidOf, saidExpiry, stepOf, Expires, Creates, Sets, Starts, Restarts, Stops, Resets, Suppresses, Gets, Checks, NextTimeout};
 
 // How many words the six have.
 pub const WORDS: usize = 18;
@@ -211,69 +211,44 @@ fn wait(timer: usize, interval: u64, count: u32, rto_max: u32) -> u64
     timer::calculate_next_timeout(interval, count, rto_max as u64)
 }
 
+fn stepped(marks: u64, refusal: u8, count: u32, expired: bool, failure: bool) -> Step
+    ensures { λ r. ⌜ r ≡ stepOf marks refusal count expired failure ⌝ }
+{
+    Step {
+        marks: marks,
+        reply: Expired {
+            count: count,
+            refusal: refusal,
+            expired: expired,
+            failure: failure,
+        },
+    }
+}
+
+// A suppressed expiry clears the suppression; another is counted.
 fn expiry(deadline: u64, maximum: u64, marks: u64, clock: u64) -> Step
     ensures { λ r. ⌜ Expires deadline maximum marks clock (r .marks) (r .reply) ⌝ }
 {
     if clock > limits::CLOCK_MAX {
-        return Step {
-            marks: marks,
-            reply: Expired {
-                count: 0,
-                refusal: limits::BEYOND_LIMIT,
-                expired: false,
-                failure: false,
-            },
-        };
+        return stepped(marks, limits::BEYOND_LIMIT, 0, false, false);
     }
     let entry = unpacked(deadline, maximum, marks);
     let until = entry.deadline;
     let count = entry.retrans;
     if !until.reached(clock) {
-        return Step {
-            marks: marks,
-            reply: Expired {
-                count: count,
-                refusal: 0,
-                expired: false,
-                failure: false,
-            },
-        };
+        return stepped(marks, 0, count, false, false);
     }
     if entry.suppressed {
         let rest = lifted(marks);
-        return Step {
-            marks: rest,
-            reply: Expired {
-                count: count,
-                refusal: 0,
-                expired: true,
-                failure: false,
-            },
-        };
+        return stepped(rest, 0, count, true, false);
     }
     if count >= limits::COUNT_MAX {
-        return Step {
-            marks: marks,
-            reply: Expired {
-                count: 0,
-                refusal: limits::COUNT_FULL,
-                expired: false,
-                failure: false,
-            },
-        };
+        return stepped(marks, limits::COUNT_FULL, 0, false, false);
     }
     let more = count + 1;
     let most = entry.maximum;
     let failure = most.exceeded(more);
-    Step {
-        marks: marks + 1,
-        reply: Expired {
-            count: more,
-            refusal: 0,
-            expired: true,
-            failure: failure,
-        },
-    }
+    stepped(marks + 1, 0, more, true, failure)
 }
 
 // The marks of a timer that is idle, with a maximum or with none.
