@@ -138,7 +138,7 @@ pub struct Checked {
 }
 
 // Whether a start takes these arguments; a restart asks the same.
-fn startable(now: u64, interval: u64) -> bool
+pub fn startable(now: u64, interval: u64) -> bool
     ensures { λ r. ⌜ r ≡ startable now interval ⌝ }
 {
     if now > limits::CLOCK_MAX {
@@ -148,7 +148,7 @@ fn startable(now: u64, interval: u64) -> bool
 }
 
 // The wait before the next expiry: doubled for each one counted, up to `rto_max`.
-fn calculate_next_timeout(rto: u64, n_rtos: u32, rto_max: u64) -> u64
+pub fn calculate_next_timeout(rto: u64, n_rtos: u32, rto_max: u64) -> u64
     requires { ⌜ rto ≤ settingMax ⌝ }
     ensures { λ r. ⌜ r ≡ backoff rto «n_rtos» «rto_max» ⌝ }
 {

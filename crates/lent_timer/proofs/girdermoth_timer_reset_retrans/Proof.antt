@@ -1,60 +1,37 @@
--- The call by value of the timer at this place, flat.
-use mathlib.Core.Path.{ap, sym, _∙_}
-use Rattle.timer.specs.declared.Found.{Found}
-use Rattle.timer.specs.declared.Timer.{Timer}
-use Rattle.timer.specs.declared.TimerTable.{TimerTable}
-use Rattle.timer.specs.Calls.{resetRetransOf}
-use Rattle.lent_timer.specs.declared.Timers.{Timers}
-use Rattle.lent_timer.specs.Flat.{flatTable, onTimer, only, tableOf}
-use borrow.Author.Needs.{needs}
-use Rattle.lent_timer.proofs.girdermoth_timer_reset_retrans.Statement.{statement}
-use Rattle.lent_timer.proofs.girdermoth_timer_reset_retrans.Tie as tie
+-- `lent_timer::girdermoth_timer_reset_retrans` meets its contract, by `timer_cells::reset_retrans`'s and walkkit's `on-head-1`.
+use mathlib.Core.Path.{subst}
+use Prim.Native.Nat.{ℕ}
+use lib.ListN.{length}
+use mir.Syntax.{w8, w64}
+use contract.Running.{givenOf, tables, tablesOf}
+use denote.Plain.{UInt}
+use denote.Triple.Spec.{tripleOf}
+use denote.Triple.Table.{entered, cited}
+use Rattle.walkkit.proofs.Lent.{of-uint}
+use Rattle.walkkit.proofs.OnHead.{on-head-1}
+use Rattle.timer_cells.specs.Says as Cells
+use Rattle.lent_timer.specs.Says.{ResetRetrans}
+use Rattle.lent_timer.proofs.Shapes.{head, answer, state, said}
+use Rattle.timer_cells.proofs.Head as D
+use Rattle.timer_cells.proofs.Said as S
+use Rattle.lent_timer.proofs.Timers as R
+use Rattle.timer_cells.proofs.reset_retrans as g
+use Rattle.timer_cells.proofs.reset_retrans.Symbol as g-def
+use Rattle.timer_cells.proofs.reset_retrans.Symbol.{name as #g}
+use Rattle.timer_cells.proofs.reset_retrans.Met as g-thm
+use Rattle.lent_timer.proofs.girdermoth_timer_reset_retrans.Key.{name as #f}
+use Rattle.lent_timer.proofs.girdermoth_timer_reset_retrans as f
+use Rattle.lent_timer.proofs.girdermoth_timer_reset_retrans.Statement as stated
+use Rattle.lent_timer.proofs.girdermoth_timer_reset_retrans.Code as code
 
-at-requires : tie.Need-at-requires
-at-requires c κs = search needs
-
-enum-known-found : tie.Need-enum-known-found
-enum-known-found c = search needs
-
-enum-told : tie.Need-enum-told
-enum-told c = search needs
-
-replied-requires : tie.Need-replied-requires
-replied-requires c κs = search needs
-
-returns : tie.Need-returns
-returns c =
-    let a = c .before .before .before .before .args in
-    c .replied .ensures ∙ ap (λ (g : Found). onTimer g (a .t) (λ (k : Timer). only (flatTable (resetRetransOf (tableOf (a .t)) k)) 0)) (sym (c .before .enum-told .given .1) ∙ c .before .before .before .at .ensures)
-
-unpacked-requires : tie.Need-unpacked-requires
-unpacked-requires c κs = search needs
-
-reset-retrans-requires : tie.Need-reset-retrans-requires
-reset-retrans-requires c κs = search needs
-
-packed-requires : tie.Need-packed-requires
-packed-requires c κs = search needs
-
-replied-requires-2 : tie.Need-replied-requires-2
-replied-requires-2 c κs = search needs
-
-returns-2 : tie.Need-returns-2
-returns-2 c =
-    let a = c .before .before .before .before .before .before .before .before .args in
-    c .replied2 .ensures ∙ ap (λ (x : Timers). only x 0) (c .before .packed .ensures) ∙ ap (λ (m : TimerTable). only (flatTable m) 0) (c .before .before .reset-retrans .ensures ∙ ap (λ (m : TimerTable). resetRetransOf m (c .before .before .before .before .before .found .given .0 .0)) (c .before .before .before .unpacked .ensures)) ∙ ap (λ (g : Found). onTimer g (a .t) (λ (k : Timer). only (flatTable (resetRetransOf (tableOf (a .t)) k)) 0)) (sym (c .before .before .before .before .before .found .given .1) ∙ c .before .before .before .before .before .before .before .at .ensures)
-
-pub girdermoth-timer-reset-retrans-spec : {M : Type 1} → statement M
-girdermoth-timer-reset-retrans-spec =
-    tie.close
-    (tie.spec
-    at-requires
-    enum-known-found
-    enum-told
-    replied-requires
-    returns
-    unpacked-requires
-    reset-retrans-requires
-    packed-requires
-    replied-requires-2
-    returns-2)
+pub girdermoth-timer-reset-retrans-spec : {M : Type 1} → stated.statement M
+unfolding code.routine tablesOf
+girdermoth-timer-reset-retrans-spec 𝓤 H 𝓜 𝓖 𝓡 =
+    let W = givenOf 𝓤 H 𝓜 𝓖 in
+    entered 𝓤 H (tripleOf 𝓤 H (𝓖 .A) f.signature (f.spec 𝓤 H (𝓖 .A) (𝓜 .mem) (𝓡 .run)))
+    (tables 𝓤 H 𝓜 𝓡 code.env .C) (tables 𝓤 H 𝓜 𝓡 code.env .Λ) #f code.function (code.unfolded 𝓤 H 𝓜 𝓡)
+    (on-head-1 𝓤 H (𝓖 .A) W R.the-row D.the-row (UInt w8) S.the-row (head 𝓤 H (𝓖 .A) W) (answer 𝓤 H (𝓖 .A) W) (state 𝓤 H (𝓖 .A) W) (said 𝓤 H (𝓖 .A) W) (UInt w64) (of-uint 𝓤 H (𝓖 .A) W w64)
+    (λ d ws x₁ ws′ r. Cells.Resets (length ws) x₁ d ws (r .head) ws′ (r .reply))
+    (λ h x₁ h′ y. ResetRetrans x₁ h h′ y)
+    (λ h x₁ ws′ r e e′ j. subst (λ (n : ℕ). Cells.Resets n x₁ (h .head) (h .cells) (r .head) ws′ (r .reply)) e j) #g (tablesOf 𝓤 H 𝓜 (tables 𝓤 H 𝓜 𝓡 code.env))
+    (cited 𝓤 H (tripleOf 𝓤 H (𝓖 .A) g.signature (g.spec 𝓤 H (𝓖 .A) (𝓜 .mem) (𝓡 .run))) 𝓜 𝓡 code.env #g g-def.routine code.calls-timer-cells·reset-retrans (g-thm.met 𝓤 H 𝓜 𝓖 𝓡)))
