@@ -1,16 +1,20 @@
 -- An abandonment as the code makes it, of any state at all: a message's leading run goes for all of its chunks, and its terminator is filed
 -- where there is room. In a `Good` state it is the model's call.
+use mathlib.Core.Path.{_≡_}
 use mathlib.Core.Option.{Option, none, some}
-use mathlib.Core.List.{map}
+use mathlib.Core.List.{List, map}
 use Prim.Native.Nat.{ℕ, _+_}
 use Rattle.limits.specs.Limits.{Room}
 use Rattle.model.specs.declared.Abandoned.{Abandoned}
 use Rattle.model.specs.declared.Chunk.{Chunk}
+use Rattle.model.specs.declared.Stream.{Stream}
 use Rattle.model.specs.Lists.{if_then_else_, keep, last}
 use Rattle.model.specs.State.{Sender, Flight, Out, same, inFlight, isOf}
 use Rattle.model.specs.Rings.{bytes, givenUp, terminator}
 use Rattle.payload_queue.specs.Queue.{changed, filed}
 use Rattle.pending_queue.specs.Runs.{runs, withoutRuns}
+use Rattle.outbound_queue.specs.declared.OutboundQueue.{OutboundQueue}
+use Rattle.outbound_queue.specs.Outbound.{ringRoom, senderOf, Counted}
 
 -- behind the removed chunks a terminator, where there is room
 abbrev pub closedBy : (room : ℕ) → (lastRemoved : Option Chunk) → Flight → Flight
@@ -29,6 +33,12 @@ leanlyAbandoned room n s =
 -- the bytes that it held
 unfoldable pub leanlyHeld : (number : ℕ) → Sender → ℕ
 leanlyHeld n s = bytes (keep (isOf n) (s .flight .entries)) + bytes (runs n (s .pending))
+
+-- a message is given up, whatever the streams are, where the flight has the cells' room: what it held is told, and the counters of bytes stay sums
+abbrev pub GivesUp : (number : ℕ) → OutboundQueue → List ℕ → OutboundQueue → List ℕ → (held : ℕ) → Type 0
+GivesUp n q ws q′ ws′ held =
+    ((room : Room) (ts : List Stream) → room .flight ≡ ringRoom ws → (senderOf ts q′ ws′ ≡ leanlyAbandoned room n (senderOf ts q ws)) × (held ≡ leanlyHeld n (senderOf ts q ws)))
+    × (Counted q ws → Counted q′ ws′)
 
 abbrev pub leanlyAbandoning : Option Chunk → Room → Sender → Out Abandoned
 leanlyAbandoning none room s = same Abandoned.Nothing s

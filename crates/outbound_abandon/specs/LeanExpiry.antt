@@ -13,8 +13,10 @@ use Rattle.model.specs.declared.TailExpired.{TailExpired}
 use Rattle.model.specs.Lists.{if_then_else_}
 use Rattle.model.specs.State.{Sender, Out, same, withPending}
 use Rattle.model.specs.Streams.{find}
-use Rattle.model.specs.Rings.{head, dropSsn, compacted, bytes, expires, tailExpires}
+use Rattle.model.specs.Rings.{head, dropSsn, compacted, bytes, expires, tailExpires, expirePending}
 use Rattle.pending_queue.specs.Runs.{runs, withoutRuns}
+use Rattle.outbound_queue.specs.declared.OutboundQueue.{OutboundQueue}
+use Rattle.outbound_queue.specs.Outbound.{senderOf, Counted, Does}
 use Rattle.outbound_abandon.specs.Lean.{leanlyAbandoned, leanlyHeld}
 
 -- ---- a wholly unsent message expires
@@ -38,6 +40,12 @@ abbrev pub dropped : Expired → List Stream → List Stream
 dropped (Expired.Message id u b) ts = if u then ts else dropSsn (find id ts) ts
 dropped Expired.Nothing ts = ts
 dropped (Expired.Refused n) ts = ts
+
+-- of any state what the code does, and of those that calls reach the model's call, whatever the streams are: the caller drops that SSN
+abbrev pub ExpiresHead : (now : ℕ) → OutboundQueue → List ℕ → OutboundQueue → List ℕ → Expired → Type 0
+ExpiresHead now q ws q′ ws′ answer =
+    ((room : Room) (ts : List Stream) → Does room (senderOf ts q ws) (record { after = senderOf (dropped answer ts) q′ ws′; says = answer }) (leanExpire now (senderOf ts q ws)) (expirePending now (senderOf ts q ws)))
+    × (Counted q ws → Counted q′ ws′)
 
 -- ---- the rest of a message that was sent in part expires
 

@@ -7,12 +7,9 @@ use model::Found;
 use model::TailExpired;
 use outbound_queue::OutboundQueue;
 ghost use mathlib.Core.Path.{_≡_};
-ghost use mathlib.Core.List.{List};
-ghost use Rattle.model.specs.Rings.{overdue, expires, expirePending, tailExpires, expirePendingTail};
-ghost use Rattle.limits.specs.Limits.{Room};
-ghost use Rattle.model.specs.declared.Stream.{Stream};
-ghost use Rattle.outbound_queue.specs.Outbound.{ringRoom, senderOf, Counted, Does};
-ghost use Rattle.outbound_abandon.specs.LeanExpiry.{dropped, leanExpire, leanExpireTail};
+ghost use Rattle.model.specs.Rings.{overdue, expires, tailExpires, expirePendingTail};
+ghost use Rattle.outbound_abandon.specs.LeanExpiry.{ExpiresHead, leanExpireTail};
+ghost use Rattle.outbound_queue.specs.Calls.{LeansIn};
 
 pub struct Expiring {
     pub queue: OutboundQueue,
@@ -52,7 +49,7 @@ fn is_expired(chunk: Chunk, clock: u64) -> bool
 // A wholly unsent message at the head goes, and takes no TSN; behind an ordered one the SSNs of its stream close the gap. The stream's own
 // next SSN is the caller's to lower (`dropped`).
 pub fn expire_pending(q: OutboundQueue, cells: &mut [u64], clock: u64) -> Expiring
-    ensures { λ r. ⌜ ((room : Room) (ts : List Stream) → Does room (senderOf ts q (now (cells .entry))) (record { after = senderOf (dropped (r .answer) ts) (r .queue) (now (cells .exit)); says = r .answer }) (leanExpire clock (senderOf ts q (now (cells .entry)))) (expirePending clock (senderOf ts q (now (cells .entry))))) × (Counted q (now (cells .entry)) → Counted (r .queue) (now (cells .exit))) ⌝ }
+    ensures { λ r. ⌜ ExpiresHead clock q (now (cells .entry)) (r .queue) (now (cells .exit)) (r .answer) ⌝ }
 {
     if limits::CLOCK_MAX < clock {
         return Expiring {
@@ -106,7 +103,7 @@ fn tail_is_expired(chunk: Chunk, clock: u64) -> bool
 
 // Gives up the message under way, if its rest has expired.
 pub fn expire_pending_tail(q: OutboundQueue, cells: &mut [u64], clock: u64) -> TailExpiring
-    ensures { λ r. ⌜ ((room : Room) (ts : List Stream) → room .flight ≡ ringRoom (now (cells .entry)) → Does room (senderOf ts q (now (cells .entry))) (record { after = senderOf ts (r .queue) (now (cells .exit)); says = r .answer }) (leanExpireTail room clock (senderOf ts q (now (cells .entry)))) (expirePendingTail clock (senderOf ts q (now (cells .entry))))) × (Counted q (now (cells .entry)) → Counted (r .queue) (now (cells .exit))) ⌝ }
+    ensures { λ r. ⌜ LeansIn (λ room. leanExpireTail room clock) (λ room. expirePendingTail clock) q (now (cells .entry)) (r .queue) (now (cells .exit)) (r .answer) ⌝ }
 {
     if limits::CLOCK_MAX < clock {
         return TailExpiring {

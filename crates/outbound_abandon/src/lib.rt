@@ -9,12 +9,9 @@ use model::Chunk;
 use model::Found;
 use outbound_queue::OutboundQueue;
 ghost use mathlib.Core.Path.{_≡_};
-ghost use mathlib.Core.List.{List};
 ghost use Rattle.model.specs.Rings.{terminator, abandon};
-ghost use Rattle.limits.specs.Limits.{Room};
-ghost use Rattle.model.specs.declared.Stream.{Stream};
-ghost use Rattle.outbound_queue.specs.Outbound.{ringRoom, senderOf, Counted, Does};
-ghost use Rattle.outbound_abandon.specs.Lean.{leanlyAbandoned, leanlyHeld, leanAbandon};
+ghost use Rattle.outbound_abandon.specs.Lean.{GivesUp, leanAbandon};
+ghost use Rattle.outbound_queue.specs.Calls.{LeansIn};
 
 pub struct Abandoning {
     pub queue: OutboundQueue,
@@ -47,7 +44,7 @@ pub struct GivenUp {
 
 // A message is given up in flight, and what is pending of it goes; a terminator stands for that. The bytes are all that it held.
 pub fn give_up(q: OutboundQueue, cells: &mut [u64], number: u64) -> GivenUp
-    ensures { λ r. ⌜ ((room : Room) (ts : List Stream) → room .flight ≡ ringRoom (now (cells .entry)) → (senderOf ts (r .queue) (now (cells .exit)) ≡ leanlyAbandoned room number (senderOf ts q (now (cells .entry)))) × (r .bytes ≡ leanlyHeld number (senderOf ts q (now (cells .entry))))) × (Counted q (now (cells .entry)) → Counted (r .queue) (now (cells .exit))) ⌝ }
+    ensures { λ r. ⌜ GivesUp number q (now (cells .entry)) (r .queue) (now (cells .exit)) (r .bytes) ⌝ }
 {
     let freed = outbound_queue::flight_steps::give_up_entries(q, cells, number);
     let removed = outbound_queue::steps::remove_pending(freed.queue, cells, number);
@@ -69,7 +66,7 @@ pub fn give_up(q: OutboundQueue, cells: &mut [u64], number: u64) -> GivenUp
 
 // Gives up the message of a TSN in flight, whatever its reliability.
 pub fn abandon(q: OutboundQueue, cells: &mut [u64], tsn: u32) -> Abandoning
-    ensures { λ r. ⌜ ((room : Room) (ts : List Stream) → room .flight ≡ ringRoom (now (cells .entry)) → Does room (senderOf ts q (now (cells .entry))) (record { after = senderOf ts (r .queue) (now (cells .exit)); says = r .answer }) (leanAbandon room tsn (senderOf ts q (now (cells .entry)))) (abandon tsn (senderOf ts q (now (cells .entry))))) × (Counted q (now (cells .entry)) → Counted (r .queue) (now (cells .exit))) ⌝ }
+    ensures { λ r. ⌜ LeansIn (λ room. leanAbandon room tsn) (λ room. abandon tsn) q (now (cells .entry)) (r .queue) (now (cells .exit)) (r .answer) ⌝ }
 {
     let entry = outbound_queue::asks::get(q, cells, tsn);
     let Found::One(chunk) = entry else {

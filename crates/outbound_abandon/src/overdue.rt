@@ -6,17 +6,16 @@ use outbound_queue::OutboundQueue;
 use payload_queue::Pending;
 ghost use mathlib.Core.Path.{_≡_};
 ghost use mathlib.Core.List.{List};
-ghost use lib.ListN.{length};
-ghost use Rattle.model.specs.Rings.{expiredInflight};
 ghost use Rattle.limits.specs.Limits.{Room};
 ghost use Rattle.model.specs.declared.Stream.{Stream};
 ghost use Rattle.demands.specs.Words.{numberUnderWay};
-ghost use Rattle.outbound_queue.specs.Outbound.{ringsIn, waiting, senderOf, Does};
-ghost use Rattle.outbound_abandon.specs.LeanListing.{named, leanList, listedIn};
+ghost use Rattle.outbound_queue.specs.Outbound.{senderOf};
+ghost use Rattle.outbound_abandon.specs.LeanListing.{named, Lists};
+ghost use Rattle.outbound_queue.specs.Calls.{waitingIn};
 
 // The message under way: the only one that can be both in flight and pending.
 fn under_way(q: OutboundQueue, cells: &[u64]) -> Pending
-    ensures { λ r. ⌜ r ≡ named (numberUnderWay (waiting q (ringsIn (now (cells .entry))))) ⌝ }
+    ensures { λ r. ⌜ r ≡ named (numberUnderWay (waitingIn q (now (cells .entry)))) ⌝ }
 {
     if q.pending.selected == 0 {
         return Pending::Nothing;
@@ -31,7 +30,7 @@ fn under_way(q: OutboundQueue, cells: &[u64]) -> Pending
 
 // The TSNs in flight whose message has expired, oldest first, in the front of the lent list; the rest of that stays.
 pub fn expired_inflight(q: OutboundQueue, cells: &[u64], clock: u64, out: &mut [u32]) -> Listed
-    ensures { λ r. ⌜ ((room : Room) (ts : List Stream) → Does room (senderOf ts q (now (cells .entry))) (record { answer = r; list = now (out .exit) }) (listedIn (now (out .entry)) (leanList clock (length (now (out .entry))) (senderOf ts q (now (cells .entry))))) (listedIn (now (out .entry)) (expiredInflight clock (length (now (out .entry))) (senderOf ts q (now (cells .entry)))))) ⌝ }
+    ensures { λ r. ⌜ ((room : Room) (ts : List Stream) → Lists room clock (senderOf ts q (now (cells .entry))) (now (out .entry)) (now (out .exit)) r) ⌝ }
 {
     if limits::CLOCK_MAX < clock {
         return Listed::Refused(limits::BEYOND_LIMIT);

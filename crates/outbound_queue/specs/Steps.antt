@@ -5,20 +5,22 @@ use mathlib.Core.List.{List}
 use Prim.Native.Nat.{ℕ, _+_}
 use native.Mathlib.Omega.{arith}
 use Rattle.model.specs.declared.Chunk.{Chunk}
-use Rattle.model.specs.declared.Lane.the-variants.{Unordered, Ordered}
+use Rattle.model.specs.declared.Lane.the-variants.{Ordered}
 use Rattle.model.specs.declared.Message.{Message}
 use Rattle.model.specs.declared.Stream.{Stream}
+use Rattle.model.specs.Lists.{if_then_else_}
 use Rattle.model.specs.State.{Sender, Pending, at, laneOf, inRings, withPending, withNumbers, withRing}
 use Rattle.model.specs.Rings.{bytes}
 use Rattle.ring.specs.Held.{held}
 use Rattle.pending_queue.specs.declared.cutting.Added.{Added}
 use Rattle.pending_queue.specs.declared.PendingQueue.{PendingQueue}
-use Rattle.pending_queue.specs.Queue.{pendingIn, both, counted-more}
-use Rattle.pending_queue.specs.Fragments.{fitsIn, withFragments, added, fits}
+use Rattle.pending_queue.specs.Queue.{both, counted-more}
+use Rattle.pending_queue.specs.Fragments.{withFragments, added, fits}
 use Rattle.pending_queue.specs.Adding.{withAdded}
 use Rattle.pending_queue.specs.Lifetimes.{startedEnd, started-bytes}
 use Rattle.outbound_queue.specs.declared.OutboundQueue.{OutboundQueue}
-use Rattle.outbound_queue.specs.Outbound.{Rings, remade, senderIn, CountedIn}
+use Rattle.outbound_queue.specs.Outbound.{Rings, ringsIn, ringRoom, remade, waiting, senderIn, senderOf, CountedIn, sender-by, counted-by}
+use Rattle.outbound_queue.specs.Calls.{waitingIn, Joins}
 
 -- every message is seen, and this is pending
 abbrev pub seenWith : Pending → Sender → Sender
@@ -52,45 +54,40 @@ pub lowered-ring : (ts : List Stream) (q : OutboundQueue) (r : Rings) (o : List 
     senderIn ts q (record { unordered = r .unordered; ordered = o; flight = r .flight }) ≡ withPending (withRing Ordered (s .pending .underWay) l (s .pending)) s
 lowered-ring ts q r o e = let s = senderIn ts q r in ap (λ (x : List Chunk). withPending (withRing Ordered (s .pending .underWay) x (s .pending)) s) e
 
--- ---- fragments: `d` is what the ring's own call gave, at the room `n`, which is the rings'
+-- ---- fragments join one of the two rings, `lane` says which: `d` is what the ring's own call gave, at the room `n`, which is the rings', and `w`
+-- are the ring's words then
 
-module _ (q : OutboundQueue) (r : Rings) (x : Message) (m off l : ℕ) {room n : ℕ} (same : n ≡ room) (d : Added) where
-  module _ (w : List ℕ) {p : PendingQueue} (e : x .unordered ≡ true) (f : p ≡ withAdded true d (q .pending)) (a : held (d .ring) w ≡ added n x m off l (held (q .pending .unordered) (r .unordered))) where
-    pub joined-unordered : (ts : List Stream) → senderIn ts (remade p (q .inflight) q) (record { unordered = w; ordered = r .ordered; flight = r .flight }) ≡ withPending (withFragments room x m off l (senderIn ts q r .pending)) (senderIn ts q r)
-    joined-unordered ts =
-        let s = senderIn ts q r in
-        ap (λ (y : PendingQueue). withPending (pendingIn y w (r .ordered)) s) f
-        ∙ ap (λ (y : List Chunk). withPending (withRing Unordered (s .pending .underWay) y (s .pending)) s) (a ∙ ap (λ (k : ℕ). added k x m off l (s .pending .unordered)) same)
-        ∙ ap (λ (t : Bool). withPending (withRing (laneOf t) (s .pending .underWay) (added room x m off l (at (laneOf t) (s .pending))) (s .pending)) s) (sym e)
+-- the rings of which that one has other words
+abbrev pub relent : (unordered : Bool) → List ℕ → Rings → Rings
+relent b w r = record { unordered = if b then w else r .unordered; ordered = if b then r .ordered else w; flight = r .flight }
 
-    pub fits-unordered : d .done ≡ fits n m off l (held (q .pending .unordered) (r .unordered)) → d .done ≡ fitsIn room x m off l (pendingIn (q .pending) (r .unordered) (r .ordered))
-    fits-unordered h =
-        let y = pendingIn (q .pending) (r .unordered) (r .ordered) in
-        h ∙ ap (λ (k : ℕ). fits k m off l (y .unordered)) same ∙ ap (λ (t : Bool). fits room m off l (at (laneOf t) y)) (sym e)
+module _ (q : OutboundQueue) (x : Message) (m off l : ℕ) (ws vs w : List ℕ) {n : ℕ} (same : n ≡ ringRoom ws) (d : Added) (lane : Bool) (back : ringsIn vs ≡ relent lane w (ringsIn ws)) {p : PendingQueue} (e : x .unordered ≡ lane) (f : p ≡ withAdded lane d (q .pending)) where
+  -- what was pending
+  abbrev waited : Pending
+  waited = waitingIn q ws
 
-    pub counted-unordered : bytes (held (d .ring) w) ≡ bytes (held (q .pending .unordered) (r .unordered)) + d .bytes → CountedIn q r → CountedIn (remade p (q .inflight) q) (record { unordered = w; ordered = r .ordered; flight = r .flight })
-    counted-unordered h k = (
-      subst (λ (y : PendingQueue). y .bytes ≡ bytes (held (y .unordered) w) + bytes (held (y .ordered) (r .ordered))) (sym f)
-          (counted-more (q .pending) (r .unordered) (r .ordered) (d .ring) (q .pending .ordered) w (r .ordered) (d .bytes) (omega (arith, h)) refl (k .0)),
-      k .1,
-    )
+  -- the queue then, by what is pending
+  abbrev anew : PendingQueue → OutboundQueue
+  anew y = remade y (q .inflight) q
 
-  module _ (w : List ℕ) {p : PendingQueue} (e : x .unordered ≡ false) (f : p ≡ withAdded false d (q .pending)) (a : held (d .ring) w ≡ added n x m off l (held (q .pending .ordered) (r .ordered))) where
-    pub joined-ordered : (ts : List Stream) → senderIn ts (remade p (q .inflight) q) (record { unordered = r .unordered; ordered = w; flight = r .flight }) ≡ withPending (withFragments room x m off l (senderIn ts q r .pending)) (senderIn ts q r)
-    joined-ordered ts =
-        let s = senderIn ts q r in
-        ap (λ (y : PendingQueue). withPending (pendingIn y (r .unordered) w) s) f
-        ∙ ap (λ (y : List Chunk). withPending (withRing Ordered (s .pending .underWay) y (s .pending)) s) (a ∙ ap (λ (k : ℕ). added k x m off l (s .pending .ordered)) same)
-        ∙ ap (λ (t : Bool). withPending (withRing (laneOf t) (s .pending .underWay) (added room x m off l (at (laneOf t) (s .pending))) (s .pending)) s) (sym e)
+  as-ring : (b : Bool) → waiting (anew (withAdded b d (q .pending))) (relent b w (ringsIn ws)) ≡ withRing (laneOf b) (waited .underWay) (held (d .ring) w) waited
+  as-ring true = refl
+  as-ring false = refl
 
-    pub fits-ordered : d .done ≡ fits n m off l (held (q .pending .ordered) (r .ordered)) → d .done ≡ fitsIn room x m off l (pendingIn (q .pending) (r .unordered) (r .ordered))
-    fits-ordered h =
-        let y = pendingIn (q .pending) (r .unordered) (r .ordered) in
-        h ∙ ap (λ (k : ℕ). fits k m off l (y .ordered)) same ∙ ap (λ (t : Bool). fits room m off l (at (laneOf t) y)) (sym e)
+  joined : held (d .ring) w ≡ added n x m off l (at (laneOf lane) waited) → waiting (anew p) (relent lane w (ringsIn ws)) ≡ withFragments (ringRoom ws) x m off l waited
+  joined a =
+      ap (λ (y : PendingQueue). waiting (anew y) (relent lane w (ringsIn ws))) f ∙ as-ring lane
+      ∙ ap (λ (y : List Chunk). withRing (laneOf lane) (waited .underWay) y waited) (a ∙ ap (λ (k : ℕ). added k x m off l (at (laneOf lane) waited)) same)
+      ∙ ap (λ (t : Bool). withRing (laneOf t) (waited .underWay) (added (ringRoom ws) x m off l (at (laneOf t) waited)) waited) (sym e)
 
-    pub counted-ordered : bytes (held (d .ring) w) ≡ bytes (held (q .pending .ordered) (r .ordered)) + d .bytes → CountedIn q r → CountedIn (remade p (q .inflight) q) (record { unordered = r .unordered; ordered = w; flight = r .flight })
-    counted-ordered h k = (
-      subst (λ (y : PendingQueue). y .bytes ≡ bytes (held (y .unordered) (r .unordered)) + bytes (held (y .ordered) w)) (sym f)
-          (counted-more (q .pending) (r .unordered) (r .ordered) (q .pending .unordered) (d .ring) (r .unordered) w (d .bytes) (omega (arith, h)) refl (k .0)),
-      k .1,
-    )
+  summed : (b : Bool) → bytes (held (d .ring) w) ≡ bytes (at (laneOf b) waited) + d .bytes → CountedIn q (ringsIn ws) → CountedIn (anew (withAdded b d (q .pending))) (relent b w (ringsIn ws))
+  summed true h k =
+      (counted-more (q .pending) (ringsIn ws .unordered) (ringsIn ws .ordered) (d .ring) (q .pending .ordered) w (ringsIn ws .ordered) (d .bytes) (omega (arith, h)) refl (k .0), k .1)
+  summed false h k =
+      (counted-more (q .pending) (ringsIn ws .unordered) (ringsIn ws .ordered) (q .pending .unordered) (d .ring) (ringsIn ws .unordered) w (d .bytes) (omega (arith, h)) refl (k .0), k .1)
+
+  pub joins : (held (d .ring) w ≡ added n x m off l (at (laneOf lane) waited)) × (d .done ≡ fits n m off l (at (laneOf lane) waited)) × (bytes (held (d .ring) w) ≡ bytes (at (laneOf lane) waited) + d .bytes) → Joins x m off l q ws (anew p) vs (d .done)
+  joins g = (
+    (λ ts. sender-by ts (anew p) vs back ∙ ap (λ (y : Pending). withPending y (senderOf ts q ws)) (joined (g .0)), λ k. counted-by (anew p) vs back (subst (λ (y : PendingQueue). CountedIn (anew y) (relent lane w (ringsIn ws))) (sym f) (summed lane (g .2) k))),
+    g .1 ∙ ap (λ (k : ℕ). fits k m off l (at (laneOf lane) waited)) same ∙ ap (λ (t : Bool). fits (ringRoom ws) m off l (at (laneOf t) waited)) (sym e),
+  )

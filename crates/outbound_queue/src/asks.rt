@@ -3,14 +3,16 @@ use super::OutboundQueue;
 use model::Earliest;
 use model::Found;
 ghost use mathlib.Core.Path.{_≡_};
-ghost use mathlib.Core.List.{List, _++_};
+ghost use mathlib.Core.List.{List};
 ghost use Prim.Native.Nat.{ℕ, _+_};
 ghost use lib.ListN.{length};
 ghost use Rattle.model.specs.declared.Stream.{Stream};
 ghost use Rattle.model.specs.State.{inFlight, nextTsn};
 ghost use Rattle.model.specs.Rings.{head, bytes};
 ghost use Rattle.model.specs.Flight.{found, isAbandoned, hasStream, earliestOutstanding};
-ghost use Rattle.outbound_queue.specs.Outbound.{ringsIn, waiting, flying, senderOf, Counted};
+ghost use Rattle.outbound_queue.specs.Outbound.{senderOf, Counted};
+ghost use Rattle.pending_queue.specs.Queue.{bytesIn};
+ghost use Rattle.outbound_queue.specs.Calls.{waitingIn, flyingIn, chunksOf, allChunks, countOf};
 
 // The number of the next message.
 pub fn next_message_id(q: OutboundQueue) -> u64
@@ -21,14 +23,14 @@ pub fn next_message_id(q: OutboundQueue) -> u64
 
 // The chunk that is sent next.
 pub fn peek_pending(q: OutboundQueue, cells: &[u64]) -> Found
-    ensures { λ r. ⌜ r ≡ found (head (waiting q (ringsIn (now (cells .entry))))) ⌝ }
+    ensures { λ r. ⌜ r ≡ found (head (waitingIn q (now (cells .entry)))) ⌝ }
 {
     let k = cells.len() / 24 * 8;
     pending_queue::peek(q.pending, &cells[0..k], &cells[k..k + k])
 }
 
 pub fn get(q: OutboundQueue, cells: &[u64], tsn: u32) -> Found
-    ensures { λ r. ⌜ r ≡ found (inFlight tsn (flying q (ringsIn (now (cells .entry))))) ⌝ }
+    ensures { λ r. ⌜ r ≡ found (inFlight tsn (flyingIn q (now (cells .entry)))) ⌝ }
 {
     let k = cells.len() / 24 * 8;
     payload_queue::get(q.inflight, &cells[k + k..k + k + k], tsn)
@@ -36,7 +38,7 @@ pub fn get(q: OutboundQueue, cells: &[u64], tsn: u32) -> Found
 
 // No for a TSN that is not in flight.
 pub fn is_abandoned(q: OutboundQueue, cells: &[u64], tsn: u32) -> bool
-    ensures { λ r. ⌜ r ≡ isAbandoned (inFlight tsn (flying q (ringsIn (now (cells .entry))))) ⌝ }
+    ensures { λ r. ⌜ r ≡ isAbandoned (inFlight tsn (flyingIn q (now (cells .entry)))) ⌝ }
 {
     let entry = get(q, cells, tsn);
     let Found::One(chunk) = entry else {
@@ -46,14 +48,14 @@ pub fn is_abandoned(q: OutboundQueue, cells: &[u64], tsn: u32) -> bool
 }
 
 pub fn pending_contains_stream(q: OutboundQueue, cells: &[u64], stream: u16) -> bool
-    ensures { λ r. ⌜ r ≡ hasStream stream (waiting q (ringsIn (now (cells .entry))) .unordered ++ waiting q (ringsIn (now (cells .entry))) .ordered) ⌝ }
+    ensures { λ r. ⌜ r ≡ hasStream stream (chunksOf (waitingIn q (now (cells .entry)))) ⌝ }
 {
     let k = cells.len() / 24 * 8;
     pending_queue::asks::contains_stream(q.pending, &cells[0..k], &cells[k..k + k], stream)
 }
 
 pub fn contains_stream(q: OutboundQueue, cells: &[u64], stream: u16) -> bool
-    ensures { λ r. ⌜ r ≡ hasStream stream (waiting q (ringsIn (now (cells .entry))) .unordered ++ waiting q (ringsIn (now (cells .entry))) .ordered ++ flying q (ringsIn (now (cells .entry))) .entries) ⌝ }
+    ensures { λ r. ⌜ r ≡ hasStream stream (allChunks (waitingIn q (now (cells .entry))) (flyingIn q (now (cells .entry)))) ⌝ }
 {
     if pending_contains_stream(q, cells, stream) {
         return true;
@@ -63,7 +65,7 @@ pub fn contains_stream(q: OutboundQueue, cells: &[u64], stream: u16) -> bool
 }
 
 pub fn pending_len(q: OutboundQueue, cells: &[u64]) -> usize
-    ensures { λ r. ⌜ r ≡ length (waiting q (ringsIn (now (cells .entry))) .unordered) + length (waiting q (ringsIn (now (cells .entry))) .ordered) ⌝ }
+    ensures { λ r. ⌜ r ≡ countOf (waitingIn q (now (cells .entry))) ⌝ }
 {
     let k = cells.len() / 24 * 8;
     pending_queue::asks::len(q.pending, &cells[0..k], &cells[k..k + k])
@@ -71,20 +73,20 @@ pub fn pending_len(q: OutboundQueue, cells: &[u64]) -> usize
 
 // In constant time, as the bytes in flight are.
 pub fn pending_bytes(q: OutboundQueue) -> u64
-    ensures { λ r. ⌜ ((ws : List ℕ) → Counted q ws → r ≡ bytes (waiting q (ringsIn ws) .unordered) + bytes (waiting q (ringsIn ws) .ordered)) ⌝ }
+    ensures { λ r. ⌜ ((ws : List ℕ) → Counted q ws → r ≡ bytesIn (waitingIn q ws)) ⌝ }
 {
     pending_queue::asks::bytes(q.pending)
 }
 
 pub fn inflight_len(q: OutboundQueue, cells: &[u64]) -> usize
-    ensures { λ r. ⌜ r ≡ length (flying q (ringsIn (now (cells .entry))) .entries) ⌝ }
+    ensures { λ r. ⌜ r ≡ length (flyingIn q (now (cells .entry)) .entries) ⌝ }
 {
     let k = cells.len() / 24 * 8;
     payload_queue::asks::len(q.inflight, &cells[k + k..k + k + k])
 }
 
 pub fn inflight_bytes(q: OutboundQueue) -> u64
-    ensures { λ r. ⌜ ((ws : List ℕ) → Counted q ws → r ≡ bytes (flying q (ringsIn ws) .entries)) ⌝ }
+    ensures { λ r. ⌜ ((ws : List ℕ) → Counted q ws → r ≡ bytes (flyingIn q ws .entries)) ⌝ }
 {
     payload_queue::asks::bytes(q.inflight)
 }

@@ -2,17 +2,11 @@
 use super::OutboundQueue;
 use model::Chunk;
 ghost use mathlib.Core.Path.{_≡_};
-ghost use mathlib.Core.List.{List, map};
 ghost use Prim.Native.Nat.{suc};
 ghost use lib.ListN.{length};
 ghost use lib.Dec.{leb};
-ghost use Rattle.model.specs.declared.Stream.{Stream};
-ghost use Rattle.model.specs.Lists.{keep};
-ghost use Rattle.model.specs.State.{isOf};
-ghost use Rattle.model.specs.Rings.{bytes, givenUp};
-ghost use Rattle.payload_queue.specs.Queue.{changed, filed};
-ghost use Rattle.payload_queue.specs.Model.{withFlight};
-ghost use Rattle.outbound_queue.specs.Outbound.{ringsIn, ringRoom, flying, senderOf, Counted};
+ghost use Rattle.outbound_queue.specs.Outbound.{ringRoom};
+ghost use Rattle.outbound_queue.specs.Calls.{flyingIn, Files, Frees};
 
 // The bytes that the message held in flight.
 pub struct Freed {
@@ -22,7 +16,7 @@ pub struct Freed {
 
 // Whether the flight has room for no more than a terminator.
 pub fn is_full(q: OutboundQueue, cells: &[u64]) -> bool
-    ensures { λ r. ⌜ r ≡ leb (ringRoom (now (cells .entry))) (suc (length (flying q (ringsIn (now (cells .entry))) .entries))) ⌝ }
+    ensures { λ r. ⌜ r ≡ leb (ringRoom (now (cells .entry))) (suc (length (flyingIn q (now (cells .entry)) .entries))) ⌝ }
 {
     let k = cells.len() / 24 * 8;
     let room = cells::room(&cells[k + k..k + k + k]);
@@ -31,7 +25,7 @@ pub fn is_full(q: OutboundQueue, cells: &[u64]) -> bool
 
 // A chunk goes behind the entries, where there is room.
 pub fn file(q: OutboundQueue, cells: &mut [u64], chunk: Chunk) -> OutboundQueue
-    ensures { λ r. ⌜ ((ts : List Stream) → senderOf ts r (now (cells .exit)) ≡ withFlight (filed (ringRoom (now (cells .entry))) chunk (flying q (ringsIn (now (cells .entry))))) (senderOf ts q (now (cells .entry)))) × (Counted q (now (cells .entry)) → Counted r (now (cells .exit))) ⌝ }
+    ensures { λ r. ⌜ Files chunk q (now (cells .entry)) r (now (cells .exit)) ⌝ }
 {
     let k = cells.len() / 24 * 8;
     let longer = payload_queue::push(q.inflight, &mut cells[k + k..k + k + k], chunk);
@@ -46,7 +40,7 @@ pub fn file(q: OutboundQueue, cells: &mut [u64], chunk: Chunk) -> OutboundQueue
 
 // Gives up every entry of a message.
 pub fn give_up_entries(q: OutboundQueue, cells: &mut [u64], number: u64) -> Freed
-    ensures { λ r. ⌜ ((ts : List Stream) → senderOf ts (r .queue) (now (cells .exit)) ≡ withFlight (changed (map (givenUp number)) (flying q (ringsIn (now (cells .entry))))) (senderOf ts q (now (cells .entry)))) × (r .bytes ≡ bytes (keep (isOf number) (flying q (ringsIn (now (cells .entry))) .entries))) × (Counted q (now (cells .entry)) → Counted (r .queue) (now (cells .exit))) ⌝ }
+    ensures { λ r. ⌜ Frees number q (now (cells .entry)) (r .queue) (now (cells .exit)) (r .bytes) ⌝ }
 {
     let k = cells.len() / 24 * 8;
     let freed = payload_queue::marks::abandon_message(

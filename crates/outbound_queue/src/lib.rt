@@ -16,6 +16,7 @@ ghost use Rattle.model.specs.declared.Stream.{Stream};
 ghost use Rattle.model.specs.State.{fresh, withStreams};
 ghost use Rattle.model.specs.Flight.{acknowledge, pop, markAll};
 ghost use Rattle.outbound_queue.specs.Outbound.{senderOf, Counted};
+ghost use Rattle.outbound_queue.specs.Calls.{Goes, Becomes};
 
 #[repr(C)]
 pub struct OutboundQueue {
@@ -54,7 +55,7 @@ pub fn new(tsn: u32, number: u64) -> OutboundQueue
 
 // Takes the oldest, if it has this TSN.
 pub fn pop(q: OutboundQueue, cells: &[u64], tsn: u32) -> Popped
-    ensures { λ r. ⌜ ((ts : List Stream) → record { after = senderOf ts (r .queue) (now (cells .entry)); says = r .front } ≡ pop tsn (senderOf ts q (now (cells .entry)))) × (Counted q (now (cells .entry)) → Counted (r .queue) (now (cells .entry))) ⌝ }
+    ensures { λ r. ⌜ Goes (pop tsn) q (now (cells .entry)) (r .queue) (now (cells .entry)) (r .front) ⌝ }
 {
     let k = cells.len() / 24 * 8;
     let rest = payload_queue::pop(q.inflight, &cells[k + k..k + k + k], tsn);
@@ -73,7 +74,7 @@ pub fn pop(q: OutboundQueue, cells: &[u64], tsn: u32) -> Popped
 }
 
 pub fn mark_as_acked(q: OutboundQueue, cells: &mut [u64], tsn: u32) -> Acked
-    ensures { λ r. ⌜ ((ts : List Stream) → record { after = senderOf ts (r .queue) (now (cells .exit)); says = r .bytes } ≡ acknowledge tsn (senderOf ts q (now (cells .entry)))) × (Counted q (now (cells .entry)) → Counted (r .queue) (now (cells .exit))) ⌝ }
+    ensures { λ r. ⌜ Goes (acknowledge tsn) q (now (cells .entry)) (r .queue) (now (cells .exit)) (r .bytes) ⌝ }
 {
     let k = cells.len() / 24 * 8;
     let marked = payload_queue::marks::mark_as_acked(q.inflight, &mut cells[k + k..k + k + k], tsn);
@@ -92,7 +93,7 @@ pub fn mark_as_acked(q: OutboundQueue, cells: &mut [u64], tsn: u32) -> Acked
 
 // Every entry that is neither acknowledged nor abandoned is to be retransmitted. The queue's numbers stay.
 pub fn mark_all_to_retransmit(q: OutboundQueue, cells: &mut [u64])
-    ensures { λ _. ⌜ ((ts : List Stream) → senderOf ts q (now (cells .exit)) ≡ markAll (senderOf ts q (now (cells .entry)))) × (Counted q (now (cells .entry)) → Counted q (now (cells .exit))) ⌝ }
+    ensures { λ _. ⌜ Becomes markAll q (now (cells .entry)) q (now (cells .exit)) ⌝ }
 {
     let k = cells.len() / 24 * 8;
     payload_queue::marks::mark_all_to_retransmit(q.inflight, &mut cells[k + k..k + k + k])

@@ -4,22 +4,10 @@
 use super::OutboundQueue;
 use model::Found;
 use model::Message;
-ghost use mathlib.Core.Path.{_≡_};
-ghost use mathlib.Core.List.{List, map};
 ghost use Prim.Native.Nat.{min};
-ghost use lib.ListN.{length};
 ghost use Rattle.limits.specs.Limits.{clockMax};
-ghost use Rattle.model.specs.declared.Lane.the-variants.{Ordered};
-ghost use Rattle.model.specs.declared.Stream.{Stream};
-ghost use Rattle.model.specs.Lists.{last};
-ghost use Rattle.model.specs.State.{withPending, withRing};
-ghost use Rattle.model.specs.Rings.{head, lowered, bytes};
-ghost use Rattle.model.specs.Flight.{found};
-ghost use Rattle.pending_queue.specs.Fragments.{fitsIn, withFragments};
-ghost use Rattle.pending_queue.specs.Fronts.{popped};
-ghost use Rattle.pending_queue.specs.Runs.{runs, withoutRuns};
-ghost use Rattle.outbound_queue.specs.Outbound.{ringsIn, ringRoom, waiting, senderOf, Counted};
 ghost use Rattle.outbound_queue.specs.Steps.{endsStarted};
+ghost use Rattle.outbound_queue.specs.Calls.{Becomes, Takes, Removes, gapClosed, Joins};
 
 pub struct Taken {
     pub queue: OutboundQueue,
@@ -42,7 +30,7 @@ pub struct Joined {
 // Starts the lifetimes of the messages not yet seen, at the ends of the rings; all are seen then. A clock beyond its limit is taken as the
 // limit.
 pub fn start_rings(q: OutboundQueue, cells: &mut [u64], clock: u64) -> OutboundQueue
-    ensures { λ r. ⌜ ((ts : List Stream) → senderOf ts r (now (cells .exit)) ≡ endsStarted (min clock clockMax) (senderOf ts q (now (cells .entry)))) × (Counted q (now (cells .entry)) → Counted r (now (cells .exit))) ⌝ }
+    ensures { λ r. ⌜ Becomes (endsStarted (min clock clockMax)) q (now (cells .entry)) r (now (cells .exit)) ⌝ }
 {
     let k = cells.len() / 24 * 8;
     let pending = q.pending;
@@ -60,7 +48,7 @@ pub fn start_rings(q: OutboundQueue, cells: &mut [u64], clock: u64) -> OutboundQ
 
 // Takes the chunk that is sent next.
 pub fn take_head(q: OutboundQueue, cells: &[u64]) -> Taken
-    ensures { λ r. ⌜ ((ts : List Stream) → senderOf ts (r .queue) (now (cells .entry)) ≡ withPending (popped (waiting q (ringsIn (now (cells .entry))))) (senderOf ts q (now (cells .entry)))) × (r .front ≡ found (head (waiting q (ringsIn (now (cells .entry)))))) × (Counted q (now (cells .entry)) → Counted (r .queue) (now (cells .entry))) ⌝ }
+    ensures { λ r. ⌜ Takes q (now (cells .entry)) (r .queue) (r .front) ⌝ }
 {
     let k = cells.len() / 24 * 8;
     let rest = pending_queue::pop(q.pending, &cells[0..k], &cells[k..k + k]);
@@ -80,7 +68,7 @@ pub fn take_head(q: OutboundQueue, cells: &[u64]) -> Taken
 
 // Removes the leading run of a message from each ring.
 pub fn remove_pending(q: OutboundQueue, cells: &[u64], number: u64) -> Removed
-    ensures { λ r. ⌜ ((ts : List Stream) → senderOf ts (r .queue) (now (cells .entry)) ≡ withPending (withoutRuns number (waiting q (ringsIn (now (cells .entry))))) (senderOf ts q (now (cells .entry)))) × (r .bytes ≡ bytes (runs number (waiting q (ringsIn (now (cells .entry)))))) × (r .last ≡ found (last (runs number (waiting q (ringsIn (now (cells .entry))))))) × (Counted q (now (cells .entry)) → Counted (r .queue) (now (cells .entry))) ⌝ }
+    ensures { λ r. ⌜ Removes number q (now (cells .entry)) (r .queue) (r .bytes) (r .last) ⌝ }
 {
     let k = cells.len() / 24 * 8;
     let rest = pending_queue::removal::remove_message(
@@ -106,7 +94,7 @@ pub fn remove_pending(q: OutboundQueue, cells: &[u64], number: u64) -> Removed
 
 // Closes the gap in a stream's SSNs behind an ordered message that leaves wholly unsent. The queue's numbers stay.
 pub fn lower_ssns(q: OutboundQueue, cells: &mut [u64], stream: u16)
-    ensures { λ _. ⌜ ((ts : List Stream) → senderOf ts q (now (cells .exit)) ≡ withPending (withRing Ordered (waiting q (ringsIn (now (cells .entry))) .underWay) (map (lowered stream) (waiting q (ringsIn (now (cells .entry))) .ordered)) (waiting q (ringsIn (now (cells .entry))))) (senderOf ts q (now (cells .entry)))) × (Counted q (now (cells .entry)) → Counted q (now (cells .exit))) ⌝ }
+    ensures { λ _. ⌜ Becomes (gapClosed stream) q (now (cells .entry)) q (now (cells .exit)) ⌝ }
 {
     let k = cells.len() / 24 * 8;
     pending_queue::removal::compact_ordered_ssns(q.pending, &mut cells[k..k + k], stream)
@@ -122,7 +110,7 @@ pub fn add_fragments(
     offset: u64,
     length: u32,
 ) -> Joined
-    ensures { λ r. ⌜ ((ts : List Stream) → senderOf ts (r .queue) (now (cells .exit)) ≡ withPending (withFragments (ringRoom (now (cells .entry))) message maximum offset length (waiting q (ringsIn (now (cells .entry))))) (senderOf ts q (now (cells .entry)))) × (r .done ≡ fitsIn (ringRoom (now (cells .entry))) message maximum offset length (waiting q (ringsIn (now (cells .entry))))) × (Counted q (now (cells .entry)) → Counted (r .queue) (now (cells .exit))) ⌝ }
+    ensures { λ r. ⌜ Joins message maximum offset length q (now (cells .entry)) (r .queue) (now (cells .exit)) (r .done) ⌝ }
 {
     let k = cells.len() / 24 * 8;
     let pending = q.pending;

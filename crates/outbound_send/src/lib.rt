@@ -10,13 +10,11 @@ use model::Found;
 use model::Sent;
 use outbound_queue::OutboundQueue;
 ghost use mathlib.Core.Path.{_≡_};
-ghost use mathlib.Core.List.{List};
-ghost use Rattle.limits.specs.Limits.{Room};
-ghost use Rattle.model.specs.declared.Stream.{Stream};
 ghost use Rattle.model.specs.Rings.{head, startLifetimes, sentAt, send};
-ghost use Rattle.outbound_queue.specs.Outbound.{ringsIn, ringRoom, waiting, flying, senderOf, Counted, Does};
+ghost use Rattle.outbound_queue.specs.Outbound.{ringRoom};
 ghost use Rattle.outbound_send.specs.Lean.{leanStart, leanSend};
 ghost use Rattle.outbound_send.specs.Sends.{blocked};
+ghost use Rattle.outbound_queue.specs.Calls.{waitingIn, flyingIn, Leans, LeansIn};
 
 pub struct Started {
     pub queue: OutboundQueue,
@@ -30,7 +28,7 @@ pub struct Sending {
 
 // Starts the lifetimes of the messages not yet seen.
 pub fn start_timed_messages(q: OutboundQueue, cells: &mut [u64], clock: u64) -> Started
-    ensures { λ r. ⌜ ((room : Room) (ts : List Stream) → Does room (senderOf ts q (now (cells .entry))) (record { after = senderOf ts (r .queue) (now (cells .exit)); says = r .answer }) (leanStart clock (senderOf ts q (now (cells .entry)))) (startLifetimes clock (senderOf ts q (now (cells .entry))))) × (Counted q (now (cells .entry)) → Counted (r .queue) (now (cells .exit))) ⌝ }
+    ensures { λ r. ⌜ Leans (leanStart clock) (startLifetimes clock) q (now (cells .entry)) (r .queue) (now (cells .exit)) (r .answer) ⌝ }
 {
     if limits::CLOCK_MAX < clock {
         return Started {
@@ -66,7 +64,7 @@ fn stamp(chunk: Chunk, clock: u64) -> Chunk
 
 // Whether there is a chunk to send, and no room for it. The room is asked for first: it is a number, and a chunk has to be unpacked.
 fn is_blocked(q: OutboundQueue, cells: &[u64]) -> bool
-    ensures { λ r. ⌜ r ≡ blocked (head (waiting q (ringsIn (now (cells .entry))))) (ringRoom (now (cells .entry))) (flying q (ringsIn (now (cells .entry))) .entries) ⌝ }
+    ensures { λ r. ⌜ r ≡ blocked (head (waitingIn q (now (cells .entry)))) (ringRoom (now (cells .entry))) (flyingIn q (now (cells .entry)) .entries) ⌝ }
 {
     if !outbound_queue::flight_steps::is_full(q, cells) {
         return false;
@@ -80,7 +78,7 @@ fn is_blocked(q: OutboundQueue, cells: &[u64]) -> bool
 
 // The head goes to the flight, with lifetimes started. What is refused is refused before the first store.
 pub fn send_next(q: OutboundQueue, cells: &mut [u64], clock: u64) -> Sending
-    ensures { λ r. ⌜ ((room : Room) (ts : List Stream) → room .flight ≡ ringRoom (now (cells .entry)) → Does room (senderOf ts q (now (cells .entry))) (record { after = senderOf ts (r .queue) (now (cells .exit)); says = r .answer }) (leanSend room clock (senderOf ts q (now (cells .entry)))) (send room clock (senderOf ts q (now (cells .entry))))) × (Counted q (now (cells .entry)) → Counted (r .queue) (now (cells .exit))) ⌝ }
+    ensures { λ r. ⌜ LeansIn (λ room. leanSend room clock) (λ room. send room clock) q (now (cells .entry)) (r .queue) (now (cells .exit)) (r .answer) ⌝ }
 {
     if limits::CLOCK_MAX < clock {
         return Sending {

@@ -4,15 +4,14 @@ use model::Message;
 use outbound_queue::OutboundQueue;
 ghost use mathlib.Core.Path.{_≡_};
 ghost use mathlib.Core.Bool.{_&&_};
-ghost use mathlib.Core.List.{List};
 ghost use Prim.Native.Nat.{_+_, _≤_};
 ghost use lib.ListN.{length};
 ghost use lib.Dec.{leb, ltb, eqb};
 ghost use Rattle.limits.specs.Limits.{numberMax};
-ghost use Rattle.model.specs.declared.Stream.{Stream};
 ghost use Rattle.model.specs.State.{at, laneOf};
-ghost use Rattle.outbound_queue.specs.Outbound.{ringsIn, ringRoom, waiting, senderOf, Counted};
+ghost use Rattle.outbound_queue.specs.Outbound.{ringRoom};
 ghost use Rattle.outbound_send.specs.Pushes.{numberedAs, pushing};
+ghost use Rattle.outbound_queue.specs.Calls.{waitingIn, Goes};
 
 pub struct Pushed {
     pub queue: OutboundQueue,
@@ -43,7 +42,7 @@ fn is_spent(fragments: usize, number: u64) -> bool
 // Whether a ring has no room for this many more.
 fn lacks_room(q: OutboundQueue, cells: &[u64], unordered: bool, fragments: usize) -> bool
     requires { ⌜ fragments ≤ 4295032829 ⌝ }
-    ensures { λ r. ⌜ r ≡ ltb (ringRoom (now (cells .entry))) (length (at (laneOf unordered) (waiting q (ringsIn (now (cells .entry))))) + fragments) ⌝ }
+    ensures { λ r. ⌜ r ≡ ltb (ringRoom (now (cells .entry))) (length (at (laneOf unordered) (waitingIn q (now (cells .entry)))) + fragments) ⌝ }
 {
     let k = cells.len() / 24 * 8;
     if unordered {
@@ -63,7 +62,7 @@ pub fn push(
     offset: u64,
     length: u32,
 ) -> Pushed
-    ensures { λ r. ⌜ ((ts : List Stream) → record { after = senderOf ts (r .queue) (now (cells .exit)); says = r .answer } ≡ pushing (ringRoom (now (cells .entry))) message maximum offset length (senderOf ts q (now (cells .entry)))) × (Counted q (now (cells .entry)) → Counted (r .queue) (now (cells .exit))) ⌝ }
+    ensures { λ r. ⌜ Goes (pushing (ringRoom (now (cells .entry))) message maximum offset length) q (now (cells .entry)) (r .queue) (now (cells .exit)) (r .answer) ⌝ }
 {
     if limits::OFFSET_MAX < offset {
         return Pushed {

@@ -3,13 +3,10 @@ use super::Sender;
 use model::Found;
 use model::Listed;
 ghost use mathlib.Core.Path.{_≡_};
-ghost use lib.ListN.{length};
 ghost use Rattle.limits.specs.Limits.{room01};
-ghost use Rattle.model.specs.Rings.{expiredInflight};
 ghost use Rattle.model.specs.Flight.{acknowledge, pop, markAll};
-ghost use Rattle.outbound_queue.specs.Outbound.{Does};
-ghost use Rattle.outbound_abandon.specs.LeanListing.{leanList, listedIn};
-ghost use Rattle.sender.specs.Value.{stateOf, Sums};
+ghost use Rattle.sender.specs.Value.{stateOf, Sums, Goes};
+ghost use Rattle.outbound_abandon.specs.LeanListing.{Lists};
 
 // The bytes that the entry held.
 pub struct Acked {
@@ -24,7 +21,7 @@ pub struct Popped {
 
 // The entry of a TSN is acknowledged, and holds nothing from then on.
 pub fn acknowledge(s: Sender, tsn: u32) -> Acked
-    ensures { λ r. ⌜ (record { after = stateOf (r .sender); says = r .bytes } ≡ acknowledge tsn (stateOf s)) × (Sums s → Sums (r .sender)) ⌝ }
+    ensures { λ r. ⌜ Goes (acknowledge tsn) s (r .sender) (r .bytes) ⌝ }
 {
     let mut cells = s.cells;
     let acked = sender_calls::flight::acknowledge(s.head, &mut cells, tsn);
@@ -40,7 +37,7 @@ pub fn acknowledge(s: Sender, tsn: u32) -> Acked
 
 // Takes the oldest entry, if it has this TSN.
 pub fn pop(s: Sender, tsn: u32) -> Popped
-    ensures { λ r. ⌜ (record { after = stateOf (r .sender); says = r .front } ≡ pop tsn (stateOf s)) × (Sums s → Sums (r .sender)) ⌝ }
+    ensures { λ r. ⌜ Goes (pop tsn) s (r .sender) (r .front) ⌝ }
 {
     let cells = s.cells;
     let rest = sender_calls::flight::pop(s.head, &cells, tsn);
@@ -70,7 +67,7 @@ pub fn mark_all(s: Sender) -> Sender
 
 // The TSNs in flight whose message has expired, in the front of the lent list; the rest of that stays. Refusals: 1, 11.
 pub fn expired_inflight(s: Sender, clock: u64, out: &mut [u32]) -> Listed
-    ensures { λ r. ⌜ Does room01 (stateOf s) (record { answer = r; list = now (out .exit) }) (listedIn (now (out .entry)) (leanList clock (length (now (out .entry))) (stateOf s))) (listedIn (now (out .entry)) (expiredInflight clock (length (now (out .entry))) (stateOf s))) ⌝ }
+    ensures { λ r. ⌜ Lists room01 clock (stateOf s) (now (out .entry)) (now (out .exit)) r ⌝ }
 {
     let cells = s.cells;
     sender_calls::flight::expired_inflight(s.head, &cells, clock, out)

@@ -7,15 +7,13 @@ use model::Expired;
 use model::Sent;
 use model::TailExpired;
 use model::Written;
-ghost use mathlib.Core.Path.{_≡_};
 ghost use Rattle.limits.specs.Limits.{room01};
 ghost use Rattle.model.specs.Messages.{write};
 ghost use Rattle.model.specs.Rings.{startLifetimes, send, expirePending, expirePendingTail, abandon};
-ghost use Rattle.outbound_queue.specs.Outbound.{Does};
 ghost use Rattle.outbound_send.specs.Lean.{leanStart, leanSend};
 ghost use Rattle.outbound_abandon.specs.Lean.{leanAbandon};
 ghost use Rattle.outbound_abandon.specs.LeanExpiry.{leanExpire, leanExpireTail};
-ghost use Rattle.sender.specs.Value.{stateOf, Sums};
+ghost use Rattle.sender.specs.Value.{Goes, Leans};
 
 pub struct Writing {
     pub sender: Sender,
@@ -44,7 +42,7 @@ pub struct Abandoning {
 
 // The caller keeps the bytes: a message is where they begin and how many they are. Refusals: 3, 6, 1, 7, 8, 9.
 pub fn write(s: Sender, identifier: u16, protocol: u32, offset: u64, length: u64) -> Writing
-    ensures { λ r. ⌜ (record { after = stateOf (r .sender); says = r .answer } ≡ write room01 identifier protocol offset length (stateOf s)) × (Sums s → Sums (r .sender)) ⌝ }
+    ensures { λ r. ⌜ Goes (write room01 identifier protocol offset length) s (r .sender) (r .answer) ⌝ }
 {
     let mut cells = s.cells;
     let writing = sender_write::write(s.head, &mut cells, identifier, protocol, offset, length);
@@ -61,7 +59,7 @@ pub fn write(s: Sender, identifier: u16, protocol: u32, offset: u64, length: u64
 
 // Starts the lifetimes of the messages not yet seen. Refusal: 1.
 pub fn start_lifetimes(s: Sender, clock: u64) -> Changed
-    ensures { λ r. ⌜ Does room01 (stateOf s) (record { after = stateOf (r .sender); says = r .answer }) (leanStart clock (stateOf s)) (startLifetimes clock (stateOf s)) × (Sums s → Sums (r .sender)) ⌝ }
+    ensures { λ r. ⌜ Leans (leanStart clock) (startLifetimes clock) s (r .sender) (r .answer) ⌝ }
 {
     let mut cells = s.cells;
     let started = sender_calls::start_lifetimes(s.head, &mut cells, clock);
@@ -78,7 +76,7 @@ pub fn start_lifetimes(s: Sender, clock: u64) -> Changed
 
 // The next chunk goes to the flight. Refusals: 1; 10 where a chunk is pending.
 pub fn send(s: Sender, clock: u64) -> Sending
-    ensures { λ r. ⌜ Does room01 (stateOf s) (record { after = stateOf (r .sender); says = r .answer }) (leanSend room01 clock (stateOf s)) (send room01 clock (stateOf s)) × (Sums s → Sums (r .sender)) ⌝ }
+    ensures { λ r. ⌜ Leans (leanSend room01 clock) (send room01 clock) s (r .sender) (r .answer) ⌝ }
 {
     let mut cells = s.cells;
     let sending = sender_calls::send(s.head, &mut cells, clock);
@@ -95,7 +93,7 @@ pub fn send(s: Sender, clock: u64) -> Sending
 
 // The message at the head goes if it is due, and takes no TSN. Refusal: 1.
 pub fn expire_pending(s: Sender, clock: u64) -> Expiring
-    ensures { λ r. ⌜ Does room01 (stateOf s) (record { after = stateOf (r .sender); says = r .answer }) (leanExpire clock (stateOf s)) (expirePending clock (stateOf s)) × (Sums s → Sums (r .sender)) ⌝ }
+    ensures { λ r. ⌜ Leans (leanExpire clock) (expirePending clock) s (r .sender) (r .answer) ⌝ }
 {
     let mut cells = s.cells;
     let expiring = sender_calls::expire_pending(s.head, &mut cells, clock);
@@ -112,7 +110,7 @@ pub fn expire_pending(s: Sender, clock: u64) -> Expiring
 
 // Abandons the message under way, if its rest has expired. Refusal: 1.
 pub fn expire_pending_tail(s: Sender, clock: u64) -> TailExpiring
-    ensures { λ r. ⌜ Does room01 (stateOf s) (record { after = stateOf (r .sender); says = r .answer }) (leanExpireTail room01 clock (stateOf s)) (expirePendingTail clock (stateOf s)) × (Sums s → Sums (r .sender)) ⌝ }
+    ensures { λ r. ⌜ Leans (leanExpireTail room01 clock) (expirePendingTail clock) s (r .sender) (r .answer) ⌝ }
 {
     let mut cells = s.cells;
     let tail = sender_calls::expire_pending_tail(s.head, &mut cells, clock);
@@ -129,7 +127,7 @@ pub fn expire_pending_tail(s: Sender, clock: u64) -> TailExpiring
 
 // Abandons the message of a TSN in flight.
 pub fn abandon(s: Sender, tsn: u32) -> Abandoning
-    ensures { λ r. ⌜ Does room01 (stateOf s) (record { after = stateOf (r .sender); says = r .answer }) (leanAbandon room01 tsn (stateOf s)) (abandon tsn (stateOf s)) × (Sums s → Sums (r .sender)) ⌝ }
+    ensures { λ r. ⌜ Leans (leanAbandon room01 tsn) (abandon tsn) s (r .sender) (r .answer) ⌝ }
 {
     let mut cells = s.cells;
     let abandoning = sender_calls::abandon(s.head, &mut cells, tsn);

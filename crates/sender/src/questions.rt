@@ -4,13 +4,13 @@ use super::Sender;
 use model::Earliest;
 use model::Found;
 ghost use mathlib.Core.Path.{_≡_};
-ghost use mathlib.Core.List.{_++_};
-ghost use Prim.Native.Nat.{_+_};
 ghost use lib.ListN.{length};
 ghost use Rattle.model.specs.State.{inFlight, nextTsn};
 ghost use Rattle.model.specs.Rings.{head, bytes};
 ghost use Rattle.model.specs.Flight.{found, isAbandoned, hasStream, earliestOutstanding};
 ghost use Rattle.sender.specs.Value.{stateOf, Sums};
+ghost use Rattle.pending_queue.specs.Queue.{bytesIn};
+ghost use Rattle.outbound_queue.specs.Calls.{chunksOf, allChunks, countOf};
 
 // The entry of a TSN.
 pub fn get(s: Sender, tsn: u32) -> Found
@@ -52,14 +52,14 @@ pub fn next_tsn(s: Sender) -> u32
 }
 
 pub fn pending_length(s: Sender) -> usize
-    ensures { λ r. ⌜ r ≡ length (stateOf s .pending .unordered) + length (stateOf s .pending .ordered) ⌝ }
+    ensures { λ r. ⌜ r ≡ countOf (stateOf s .pending) ⌝ }
 {
     let cells = s.cells;
     sender_asks::pending_length(s.head, &cells)
 }
 
 pub fn pending_bytes(s: Sender) -> u64
-    ensures { λ r. ⌜ (Sums s → r ≡ bytes (stateOf s .pending .unordered) + bytes (stateOf s .pending .ordered)) ⌝ }
+    ensures { λ r. ⌜ (Sums s → r ≡ bytesIn (stateOf s .pending)) ⌝ }
 {
     sender_asks::pending_bytes(s.head)
 }
@@ -87,7 +87,7 @@ pub fn earliest_outstanding(s: Sender) -> Earliest
 
 // Whether a stream has chunks pending.
 pub fn pending_contains_stream(s: Sender, identifier: u16) -> bool
-    ensures { λ r. ⌜ r ≡ hasStream identifier (stateOf s .pending .unordered ++ stateOf s .pending .ordered) ⌝ }
+    ensures { λ r. ⌜ r ≡ hasStream identifier (chunksOf (stateOf s .pending)) ⌝ }
 {
     let cells = s.cells;
     sender_asks::pending_contains_stream(s.head, &cells, identifier)
@@ -95,7 +95,7 @@ pub fn pending_contains_stream(s: Sender, identifier: u16) -> bool
 
 // Whether a stream has chunks pending or in flight.
 pub fn contains_stream(s: Sender, identifier: u16) -> bool
-    ensures { λ r. ⌜ r ≡ hasStream identifier (stateOf s .pending .unordered ++ stateOf s .pending .ordered ++ stateOf s .flight .entries) ⌝ }
+    ensures { λ r. ⌜ r ≡ hasStream identifier (allChunks (stateOf s .pending) (stateOf s .flight)) ⌝ }
 {
     let cells = s.cells;
     sender_asks::contains_stream(s.head, &cells, identifier)

@@ -8,14 +8,16 @@ use model::Found;
 use sender_head::Head;
 use stream_table::Place;
 ghost use mathlib.Core.Path.{_≡_};
-ghost use mathlib.Core.List.{List, _++_};
-ghost use Prim.Native.Nat.{ℕ, _+_};
+ghost use mathlib.Core.List.{List};
+ghost use Prim.Native.Nat.{ℕ};
 ghost use lib.ListN.{length};
 ghost use Rattle.model.specs.Rings.{head, bytes};
 ghost use Rattle.model.specs.Flight.{found, hasStream, isAbandoned, earliestOutstanding};
 ghost use Rattle.sender_head.specs.Whole.{senderOf, Counted};
 ghost use Rattle.model.specs.State.{inFlight, nextTsn};
 ghost use Rattle.model.specs.Streams.{find, amount, counts};
+ghost use Rattle.pending_queue.specs.Queue.{bytesIn};
+ghost use Rattle.outbound_queue.specs.Calls.{chunksOf, allChunks, countOf};
 
 // The chunk that is sent next.
 pub fn peek_pending(h: Head, cells: &[u64]) -> Found
@@ -34,7 +36,7 @@ pub fn next_message(h: Head) -> u64
 }
 
 pub fn pending_length(h: Head, cells: &[u64]) -> usize
-    ensures { λ r. ⌜ r ≡ length (senderOf h (now (cells .entry)) .pending .unordered) + length (senderOf h (now (cells .entry)) .pending .ordered) ⌝ }
+    ensures { λ r. ⌜ r ≡ countOf (senderOf h (now (cells .entry)) .pending) ⌝ }
 {
     let k = sender_head::table_words(cells);
     let n = cells.len();
@@ -42,14 +44,14 @@ pub fn pending_length(h: Head, cells: &[u64]) -> usize
 }
 
 pub fn pending_bytes(h: Head) -> u64
-    ensures { λ r. ⌜ ((ws : List ℕ) → Counted h ws → r ≡ bytes (senderOf h ws .pending .unordered) + bytes (senderOf h ws .pending .ordered)) ⌝ }
+    ensures { λ r. ⌜ ((ws : List ℕ) → Counted h ws → r ≡ bytesIn (senderOf h ws .pending)) ⌝ }
 {
     outbound_queue::asks::pending_bytes(h.queue)
 }
 
 // Whether a stream has chunks pending.
 pub fn pending_contains_stream(h: Head, cells: &[u64], identifier: u16) -> bool
-    ensures { λ r. ⌜ r ≡ hasStream identifier (senderOf h (now (cells .entry)) .pending .unordered ++ senderOf h (now (cells .entry)) .pending .ordered) ⌝ }
+    ensures { λ r. ⌜ r ≡ hasStream identifier (chunksOf (senderOf h (now (cells .entry)) .pending)) ⌝ }
 {
     let k = sender_head::table_words(cells);
     let n = cells.len();
@@ -58,7 +60,7 @@ pub fn pending_contains_stream(h: Head, cells: &[u64], identifier: u16) -> bool
 
 // Whether a stream has chunks pending or in flight.
 pub fn contains_stream(h: Head, cells: &[u64], identifier: u16) -> bool
-    ensures { λ r. ⌜ r ≡ hasStream identifier (senderOf h (now (cells .entry)) .pending .unordered ++ senderOf h (now (cells .entry)) .pending .ordered ++ senderOf h (now (cells .entry)) .flight .entries) ⌝ }
+    ensures { λ r. ⌜ r ≡ hasStream identifier (allChunks (senderOf h (now (cells .entry)) .pending) (senderOf h (now (cells .entry)) .flight)) ⌝ }
 {
     let k = sender_head::table_words(cells);
     let n = cells.len();

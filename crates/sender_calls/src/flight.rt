@@ -4,13 +4,10 @@
 use model::Found;
 use model::Listed;
 use sender_head::Head;
-ghost use mathlib.Core.Path.{_≡_};
-ghost use lib.ListN.{length};
-ghost use Rattle.model.specs.Rings.{expiredInflight};
 ghost use Rattle.model.specs.Flight.{acknowledge, pop, markAll};
-ghost use Rattle.outbound_queue.specs.Outbound.{Does};
-ghost use Rattle.outbound_abandon.specs.LeanListing.{leanList, listedIn};
-ghost use Rattle.sender_head.specs.Whole.{roomIn, senderOf, Counted};
+ghost use Rattle.sender_head.specs.Whole.{roomIn, senderOf};
+ghost use Rattle.outbound_abandon.specs.LeanListing.{Lists};
+ghost use Rattle.sender_head.specs.Calls.{Goes, Becomes};
 
 // The bytes that the entry held.
 pub struct Acked {
@@ -25,7 +22,7 @@ pub struct Popped {
 
 // The entry of a TSN is acknowledged, and holds nothing from then on.
 pub fn acknowledge(h: Head, cells: &mut [u64], tsn: u32) -> Acked
-    ensures { λ r. ⌜ (record { after = senderOf (r .head) (now (cells .exit)); says = r .bytes } ≡ acknowledge tsn (senderOf h (now (cells .entry)))) × (Counted h (now (cells .entry)) → Counted (r .head) (now (cells .exit))) ⌝ }
+    ensures { λ r. ⌜ Goes (acknowledge tsn) h (now (cells .entry)) (r .head) (now (cells .exit)) (r .bytes) ⌝ }
 {
     let k = sender_head::table_words(cells);
     let n = cells.len();
@@ -42,7 +39,7 @@ pub fn acknowledge(h: Head, cells: &mut [u64], tsn: u32) -> Acked
 
 // Takes the oldest entry, if it has this TSN.
 pub fn pop(h: Head, cells: &[u64], tsn: u32) -> Popped
-    ensures { λ r. ⌜ (record { after = senderOf (r .head) (now (cells .entry)); says = r .front } ≡ pop tsn (senderOf h (now (cells .entry)))) × (Counted h (now (cells .entry)) → Counted (r .head) (now (cells .entry))) ⌝ }
+    ensures { λ r. ⌜ Goes (pop tsn) h (now (cells .entry)) (r .head) (now (cells .entry)) (r .front) ⌝ }
 {
     let k = sender_head::table_words(cells);
     let n = cells.len();
@@ -60,7 +57,7 @@ pub fn pop(h: Head, cells: &[u64], tsn: u32) -> Popped
 
 // Every entry that is neither acknowledged nor abandoned is to be retransmitted. The head stays.
 pub fn mark_all(h: Head, cells: &mut [u64])
-    ensures { λ _. ⌜ (senderOf h (now (cells .exit)) ≡ markAll (senderOf h (now (cells .entry)))) × (Counted h (now (cells .entry)) → Counted h (now (cells .exit))) ⌝ }
+    ensures { λ _. ⌜ Becomes markAll h (now (cells .entry)) h (now (cells .exit)) ⌝ }
 {
     let k = sender_head::table_words(cells);
     let n = cells.len();
@@ -69,7 +66,7 @@ pub fn mark_all(h: Head, cells: &mut [u64])
 
 // The TSNs in flight whose message has expired, in the front of the lent list; the rest of that stays. Refusals: 1, 11.
 pub fn expired_inflight(h: Head, cells: &[u64], clock: u64, out: &mut [u32]) -> Listed
-    ensures { λ r. ⌜ Does (roomIn (now (cells .entry))) (senderOf h (now (cells .entry))) (record { answer = r; list = now (out .exit) }) (listedIn (now (out .entry)) (leanList clock (length (now (out .entry))) (senderOf h (now (cells .entry))))) (listedIn (now (out .entry)) (expiredInflight clock (length (now (out .entry))) (senderOf h (now (cells .entry))))) ⌝ }
+    ensures { λ r. ⌜ Lists (roomIn (now (cells .entry))) clock (senderOf h (now (cells .entry))) (now (out .entry)) (now (out .exit)) r ⌝ }
 {
     let k = sender_head::table_words(cells);
     let n = cells.len();

@@ -10,13 +10,12 @@ use model::Sent;
 use model::TailExpired;
 use sender_head::Head;
 ghost use Rattle.model.specs.Rings.{startLifetimes, send, expirePendingTail, abandon, expirePending};
-ghost use Rattle.outbound_queue.specs.Outbound.{Does};
 ghost use Rattle.outbound_send.specs.Lean.{leanStart, leanSend};
 ghost use Rattle.outbound_abandon.specs.Lean.{leanAbandon};
 ghost use Rattle.outbound_abandon.specs.LeanExpiry.{leanExpireTail, dropped, leanExpire};
-ghost use Rattle.sender_head.specs.Whole.{roomIn, senderOf, Counted};
-ghost use mathlib.Core.Path.{_≡_};
+ghost use Rattle.sender_head.specs.Whole.{roomIn};
 ghost use Rattle.model.specs.State.{withStreams};
+ghost use Rattle.sender_head.specs.Calls.{Becomes, Leans};
 
 pub struct Started {
     pub head: Head,
@@ -40,7 +39,7 @@ pub struct Abandoning {
 
 // Starts the lifetimes of the messages not yet seen. Refusal: 1.
 pub fn start_lifetimes(h: Head, cells: &mut [u64], clock: u64) -> Started
-    ensures { λ r. ⌜ Does (roomIn (now (cells .entry))) (senderOf h (now (cells .entry))) (record { after = senderOf (r .head) (now (cells .exit)); says = r .answer }) (leanStart clock (senderOf h (now (cells .entry)))) (startLifetimes clock (senderOf h (now (cells .entry)))) × (Counted h (now (cells .entry)) → Counted (r .head) (now (cells .exit))) ⌝ }
+    ensures { λ r. ⌜ Leans (leanStart clock) (startLifetimes clock) h (now (cells .entry)) (r .head) (now (cells .exit)) (r .answer) ⌝ }
 {
     let k = sender_head::table_words(cells);
     let n = cells.len();
@@ -58,7 +57,7 @@ pub fn start_lifetimes(h: Head, cells: &mut [u64], clock: u64) -> Started
 
 // The next chunk goes to the flight. Refusals: 1; 10 where a chunk is pending.
 pub fn send(h: Head, cells: &mut [u64], clock: u64) -> Sending
-    ensures { λ r. ⌜ Does (roomIn (now (cells .entry))) (senderOf h (now (cells .entry))) (record { after = senderOf (r .head) (now (cells .exit)); says = r .answer }) (leanSend (roomIn (now (cells .entry))) clock (senderOf h (now (cells .entry)))) (send (roomIn (now (cells .entry))) clock (senderOf h (now (cells .entry)))) × (Counted h (now (cells .entry)) → Counted (r .head) (now (cells .exit))) ⌝ }
+    ensures { λ r. ⌜ Leans (leanSend (roomIn (now (cells .entry))) clock) (send (roomIn (now (cells .entry))) clock) h (now (cells .entry)) (r .head) (now (cells .exit)) (r .answer) ⌝ }
 {
     let k = sender_head::table_words(cells);
     let n = cells.len();
@@ -76,7 +75,7 @@ pub fn send(h: Head, cells: &mut [u64], clock: u64) -> Sending
 
 // Abandons the message under way, if its rest has expired. Refusal: 1.
 pub fn expire_pending_tail(h: Head, cells: &mut [u64], clock: u64) -> TailExpiring
-    ensures { λ r. ⌜ Does (roomIn (now (cells .entry))) (senderOf h (now (cells .entry))) (record { after = senderOf (r .head) (now (cells .exit)); says = r .answer }) (leanExpireTail (roomIn (now (cells .entry))) clock (senderOf h (now (cells .entry)))) (expirePendingTail clock (senderOf h (now (cells .entry)))) × (Counted h (now (cells .entry)) → Counted (r .head) (now (cells .exit))) ⌝ }
+    ensures { λ r. ⌜ Leans (leanExpireTail (roomIn (now (cells .entry))) clock) (expirePendingTail clock) h (now (cells .entry)) (r .head) (now (cells .exit)) (r .answer) ⌝ }
 {
     let k = sender_head::table_words(cells);
     let n = cells.len();
@@ -94,7 +93,7 @@ pub fn expire_pending_tail(h: Head, cells: &mut [u64], clock: u64) -> TailExpiri
 
 // Abandons the message of a TSN in flight.
 pub fn abandon(h: Head, cells: &mut [u64], tsn: u32) -> Abandoning
-    ensures { λ r. ⌜ Does (roomIn (now (cells .entry))) (senderOf h (now (cells .entry))) (record { after = senderOf (r .head) (now (cells .exit)); says = r .answer }) (leanAbandon (roomIn (now (cells .entry))) tsn (senderOf h (now (cells .entry)))) (abandon tsn (senderOf h (now (cells .entry)))) × (Counted h (now (cells .entry)) → Counted (r .head) (now (cells .exit))) ⌝ }
+    ensures { λ r. ⌜ Leans (leanAbandon (roomIn (now (cells .entry))) tsn) (abandon tsn) h (now (cells .entry)) (r .head) (now (cells .exit)) (r .answer) ⌝ }
 {
     let k = sender_head::table_words(cells);
     let n = cells.len();
@@ -117,7 +116,7 @@ pub struct Expiring {
 
 // Behind an ordered message the next SSN of its stream drops.
 fn lower_behind(h: Head, cells: &mut [u64], answer: Expired)
-    ensures { λ _. ⌜ (senderOf h (now (cells .exit)) ≡ withStreams (dropped answer (senderOf h (now (cells .entry)) .streams)) (senderOf h (now (cells .entry)))) × (Counted h (now (cells .entry)) → Counted h (now (cells .exit))) ⌝ }
+    ensures { λ _. ⌜ Becomes (λ s. withStreams (dropped answer (s .streams)) s) h (now (cells .entry)) h (now (cells .exit)) ⌝ }
 {
     match answer {
         Expired::Nothing => {}
@@ -137,7 +136,7 @@ fn lower_behind(h: Head, cells: &mut [u64], answer: Expired)
 
 // The message at the head goes if it is due, and takes no TSN. Refusal: 1.
 pub fn expire_pending(h: Head, cells: &mut [u64], clock: u64) -> Expiring
-    ensures { λ r. ⌜ Does (roomIn (now (cells .entry))) (senderOf h (now (cells .entry))) (record { after = senderOf (r .head) (now (cells .exit)); says = r .answer }) (leanExpire clock (senderOf h (now (cells .entry)))) (expirePending clock (senderOf h (now (cells .entry)))) × (Counted h (now (cells .entry)) → Counted (r .head) (now (cells .exit))) ⌝ }
+    ensures { λ r. ⌜ Leans (leanExpire clock) (expirePending clock) h (now (cells .entry)) (r .head) (now (cells .exit)) (r .answer) ⌝ }
 {
     let k = sender_head::table_words(cells);
     let n = cells.len();

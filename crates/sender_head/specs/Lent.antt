@@ -10,10 +10,12 @@ use Rattle.model.specs.State.{Sender, Out}
 use Rattle.rows.specs.Parts.{part, patch}
 use Rattle.stream_table.specs.Tables.{tableOf}
 use Rattle.outbound_queue.specs.declared.OutboundQueue.{OutboundQueue}
-use Rattle.outbound_queue.specs.Outbound as Queue
 use Rattle.outbound_queue.specs.Outbound.{Does, ringRoom}
+use Rattle.outbound_queue.specs.Outbound as Rings
+use Rattle.outbound_queue.specs.Calls as Queue
 use Rattle.sender_head.specs.declared.Head.{Head}
 use Rattle.sender_head.specs.Whole.{tableWords, Halves, halves, roomIn, senderOf, Counted, parts-are, queue-back, sender-by, counted-by}
+use Rattle.sender_head.specs.Calls.{Goes, Becomes, Leans}
 
 -- the head with another queue
 abbrev pub headed : OutboundQueue → Head → Head
@@ -31,38 +33,74 @@ module _ (h : Head) (ws : List ℕ) (k : ℕ) (counted : k ≡ tableWords ws) wh
   queue-is = ap (λ (c : Halves). c .queue) (parts-are ws k counted)
 
   -- the sender that the queue's call speaks of is the whole one
-  pub lent-sender : Queue.senderOf open-streams (h .queue) lent ≡ senderOf h ws
-  lent-sender = ap (Queue.senderOf open-streams (h .queue)) queue-is
+  pub lent-sender : Rings.senderOf open-streams (h .queue) lent ≡ senderOf h ws
+  lent-sender = ap (Rings.senderOf open-streams (h .queue)) queue-is
 
   pub lent-room : roomIn ws .flight ≡ ringRoom lent
   lent-room = sym (ap ringRoom queue-is)
 
-  pub lent-counted : Counted h ws → Queue.Counted (h .queue) lent
-  lent-counted c = subst (Queue.Counted (h .queue)) (sym queue-is) c
+  pub lent-counted : Counted h ws → Rings.Counted (h .queue) lent
+  lent-counted c = subst (Rings.Counted (h .queue)) (sym queue-is) c
 
   module _ (q : OutboundQueue) where
     -- where nothing is stored
-    pub read-sender : Queue.senderOf open-streams q lent ≡ senderOf (headed q h) ws
-    read-sender = ap (Queue.senderOf open-streams q) queue-is
+    pub read-sender : Rings.senderOf open-streams q lent ≡ senderOf (headed q h) ws
+    read-sender = ap (Rings.senderOf open-streams q) queue-is
 
-    pub read-counted : Queue.Counted q lent → Counted (headed q h) ws
-    read-counted c = subst (Queue.Counted q) queue-is c
+    pub read-counted : Rings.Counted q lent → Counted (headed q h) ws
+    read-counted c = subst (Rings.Counted q) queue-is c
 
     module _ (p : List ℕ) (e : length p ≡ length lent) where
-      pub back-sender : senderOf (headed q h) (patch k (length ws) ws p) ≡ Queue.senderOf open-streams q p
+      pub back-sender : senderOf (headed q h) (patch k (length ws) ws p) ≡ Rings.senderOf open-streams q p
       back-sender = sender-by (headed q h) (patch k (length ws) ws p) (queue-back ws k counted p e)
 
-      pub back-counted : Queue.Counted q p → Counted (headed q h) (patch k (length ws) ws p)
+      pub back-counted : Rings.Counted q p → Counted (headed q h) (patch k (length ws) ws p)
       back-counted c = counted-by (headed q h) (patch k (length ws) ws p) (queue-back ws k counted p e) c
 
 -- ---- what a call comes to, by the sender that is a variable: from `x` to `y` the senders are the same
 
+pub told-of : {A : Type 0} {says : A} {x y : Sender} → y ≡ x → _≡_ {A = Out A} (record { after = y; says = says }) (record { after = x; says = says })
+told-of {A} {says} e = ap (λ (o : Sender). record { after = o; says = says }) e
+
 -- the same outcome of the same sender
-pub said-of : {A : Type 0} {says : A} {x y s t : Sender} (call : Sender → Out A) → y ≡ x → s ≡ t → record { after = x; says = says } ≡ call s → record { after = y; says = says } ≡ call t
-said-of {A} {says} call e f q = ap (λ (o : Sender). record { after = o; says = says }) e ∙ q ∙ ap call f
+said-of : {A : Type 0} {says : A} {x y s t : Sender} (call : Sender → Out A) → y ≡ x → s ≡ t → record { after = x; says = says } ≡ call s → record { after = y; says = says } ≡ call t
+said-of {A} {says} call e f q = told-of e ∙ q ∙ ap call f
 
 pub does-of : {A : Type 0} {room : Room} {got other : A} {s t : Sender} (lean said : Sender → A) → got ≡ other → s ≡ t → Does room s other (lean s) (said s) → Does room t got (lean t) (said t)
 does-of {room = room} {got} {other} lean said g f d = subst (λ (o : Sender). Does room o got (lean o) (said o)) f (g ∙ d .0, λ good. g ∙ d .1 good)
 
-pub told-of : {A : Type 0} {says : A} {x y : Sender} → y ≡ x → _≡_ {A = Out A} (record { after = y; says = says }) (record { after = x; says = says })
-told-of {A} {says} e = ap (λ (o : Sender). record { after = o; says = says }) e
+-- ---- what the queue's call promises, the sender's call promises
+
+module _ (h : Head) (ws : List ℕ) (k : ℕ) (counted : k ≡ tableWords ws) (q : OutboundQueue) where
+  -- where nothing is stored
+  pub goes-read : {A : Type 0} {answer : A} (call : Sender → Out A) → Queue.Goes call (h .queue) (lent h ws k counted) q (lent h ws k counted) answer → Goes call h ws (headed q h) ws answer
+  goes-read call g = (
+    said-of call (sym (read-sender h ws k counted q)) (lent-sender h ws k counted) (g .0 (open-streams h ws k counted)),
+    λ z. read-counted h ws k counted q (g .1 (lent-counted h ws k counted z)),
+  )
+
+  module _ (p : List ℕ) (e : length p ≡ length (lent h ws k counted)) where
+    -- the cells then
+    abbrev after : List ℕ
+    after = patch k (length ws) ws p
+
+    still : (Rings.Counted (h .queue) (lent h ws k counted) → Rings.Counted q p) → Counted h ws → Counted (headed q h) after
+    still f z = back-counted h ws k counted q p e (f (lent-counted h ws k counted z))
+
+    pub goes-lent : {A : Type 0} {answer : A} (call : Sender → Out A) → Queue.Goes call (h .queue) (lent h ws k counted) q p answer → Goes call h ws (headed q h) after answer
+    goes-lent call g = (said-of call (back-sender h ws k counted q p e) (lent-sender h ws k counted) (g .0 (open-streams h ws k counted)), still (g .1))
+
+    pub becomes-lent : (change : Sender → Sender) → Queue.Becomes change (h .queue) (lent h ws k counted) q p → Becomes change h ws (headed q h) after
+    becomes-lent change g = (back-sender h ws k counted q p e ∙ g .0 (open-streams h ws k counted) ∙ ap change (lent-sender h ws k counted), still (g .1))
+
+    pub leans-lent : {A : Type 0} {answer : A} (lean call : Sender → Out A) → Queue.Leans lean call (h .queue) (lent h ws k counted) q p answer → Leans lean call h ws (headed q h) after answer
+    leans-lent lean call g = (
+      does-of lean call (told-of (back-sender h ws k counted q p e)) (lent-sender h ws k counted) (g .0 (roomIn ws) (open-streams h ws k counted)),
+      still (g .1),
+    )
+
+    pub leans-in-lent : {A : Type 0} {answer : A} (lean call : Room → Sender → Out A) → Queue.LeansIn lean call (h .queue) (lent h ws k counted) q p answer → Leans (lean (roomIn ws)) (call (roomIn ws)) h ws (headed q h) after answer
+    leans-in-lent lean call g = (
+      does-of (lean (roomIn ws)) (call (roomIn ws)) (told-of (back-sender h ws k counted q p e)) (lent-sender h ws k counted) (g .0 (roomIn ws) (open-streams h ws k counted) (lent-room h ws k counted)),
+      still (g .1),
+    )

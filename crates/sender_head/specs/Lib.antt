@@ -2,5 +2,7 @@
 -- as one of the whole sender.
 pub mod Whole
 pub mod Lent
+-- Calls: what a contract promises, in one word.
+pub mod Calls
 -- Tables: the table came back from a call, and the queue's words stay.
 pub mod Tables

@@ -3,11 +3,11 @@ use super::Head;
 use model::Stream;
 use stream_table::Place;
 ghost use mathlib.Core.Path.{_≡_};
-ghost use lib.ListN.{length, set};
-ghost use lib.Dec.{ltb};
+ghost use lib.ListN.{set};
 ghost use Rattle.model.specs.State.{withStreams};
-ghost use Rattle.stream_table.specs.Tables.{sought, joined};
-ghost use Rattle.sender_head.specs.Whole.{roomIn, senderOf, Counted};
+ghost use Rattle.stream_table.specs.Tables.{sought};
+ghost use Rattle.sender_head.specs.Whole.{senderOf};
+ghost use Rattle.sender_head.specs.Calls.{Becomes, Joins};
 
 // Whether there was room.
 pub struct Joined {
@@ -25,7 +25,7 @@ pub fn seek(h: Head, cells: &[u64], identifier: u16) -> Place
 
 // The stream at a place is replaced. The head's numbers stay.
 pub fn replace(h: Head, cells: &mut [u64], place: usize, stream: Stream)
-    ensures { λ _. ⌜ (senderOf h (now (cells .exit)) ≡ withStreams (set (senderOf h (now (cells .entry)) .streams) place stream) (senderOf h (now (cells .entry)))) × (Counted h (now (cells .entry)) → Counted h (now (cells .exit))) ⌝ }
+    ensures { λ _. ⌜ Becomes (λ s. withStreams (set (s .streams) place stream) s) h (now (cells .entry)) h (now (cells .exit)) ⌝ }
 {
     let k = super::table_words(cells);
     stream_table::update(h.streams, &mut cells[0..k], place, stream)
@@ -33,7 +33,7 @@ pub fn replace(h: Head, cells: &mut [u64], place: usize, stream: Stream)
 
 // One more at the end, where there is room.
 pub fn join(h: Head, cells: &mut [u64], stream: Stream) -> Joined
-    ensures { λ r. ⌜ (senderOf (r .head) (now (cells .exit)) ≡ withStreams (joined (roomIn (now (cells .entry)) .streams) (senderOf h (now (cells .entry)) .streams) stream) (senderOf h (now (cells .entry)))) × (r .done ≡ ltb (length (senderOf h (now (cells .entry)) .streams)) (roomIn (now (cells .entry)) .streams)) × (Counted h (now (cells .entry)) → Counted (r .head) (now (cells .exit))) ⌝ }
+    ensures { λ r. ⌜ Joins stream h (now (cells .entry)) (r .head) (now (cells .exit)) (r .done) ⌝ }
 {
     let k = super::table_words(cells);
     let opened = stream_table::open(h.streams, &mut cells[0..k], stream);

@@ -5,11 +5,11 @@ use model::Done;
 use model::Released;
 use sender_head::Head;
 use stream_table::Place;
-ghost use mathlib.Core.Path.{_≡_};
 ghost use Rattle.model.specs.State.{withStreams};
 ghost use Rattle.model.specs.Streams.{find, openStream, setReliability, setLow, setHigh, release};
 ghost use Rattle.model.specs.Rings.{dropSsn};
-ghost use Rattle.sender_head.specs.Whole.{roomIn, senderOf, Counted};
+ghost use Rattle.sender_head.specs.Whole.{roomIn};
+ghost use Rattle.sender_head.specs.Calls.{Goes, Becomes};
 
 pub struct Opening {
     pub head: Head,
@@ -20,7 +20,7 @@ pub struct Opening {
 
 // A new stream: ordered, Reliable, and never high.
 pub fn open_stream(h: Head, cells: &mut [u64], identifier: u16, maximum: u32) -> Opening
-    ensures { λ r. ⌜ (record { after = senderOf (r .head) (now (cells .exit)); says = r .answer } ≡ openStream (roomIn (now (cells .entry))) identifier maximum (senderOf h (now (cells .entry)))) × (Counted h (now (cells .entry)) → Counted (r .head) (now (cells .exit))) ⌝ }
+    ensures { λ r. ⌜ Goes (openStream (roomIn (now (cells .entry))) identifier maximum) h (now (cells .entry)) (r .head) (now (cells .exit)) (r .answer) ⌝ }
 {
     if maximum < 1 {
         return Opening {
@@ -67,7 +67,7 @@ pub fn set_reliability(
     kind: u8,
     value: u32,
 ) -> Done
-    ensures { λ r. ⌜ (record { after = senderOf h (now (cells .exit)); says = r } ≡ setReliability identifier unordered kind value (senderOf h (now (cells .entry)))) × (Counted h (now (cells .entry)) → Counted h (now (cells .exit))) ⌝ }
+    ensures { λ r. ⌜ Goes (setReliability identifier unordered kind value) h (now (cells .entry)) h (now (cells .exit)) r ⌝ }
 {
     let place = sender_head::table::seek(h, cells, identifier);
     let Place::At(i, old) = place else {
@@ -79,7 +79,7 @@ pub fn set_reliability(
 }
 
 pub fn set_low_threshold(h: Head, cells: &mut [u64], identifier: u16, low: u64) -> Done
-    ensures { λ r. ⌜ (record { after = senderOf h (now (cells .exit)); says = r } ≡ setLow identifier low (senderOf h (now (cells .entry)))) × (Counted h (now (cells .entry)) → Counted h (now (cells .exit))) ⌝ }
+    ensures { λ r. ⌜ Goes (setLow identifier low) h (now (cells .entry)) h (now (cells .exit)) r ⌝ }
 {
     let place = sender_head::table::seek(h, cells, identifier);
     let Place::At(i, old) = place else {
@@ -91,7 +91,7 @@ pub fn set_low_threshold(h: Head, cells: &mut [u64], identifier: u16, low: u64) 
 }
 
 pub fn set_high_threshold(h: Head, cells: &mut [u64], identifier: u16, high: u64) -> Done
-    ensures { λ r. ⌜ (record { after = senderOf h (now (cells .exit)); says = r } ≡ setHigh identifier high (senderOf h (now (cells .entry)))) × (Counted h (now (cells .entry)) → Counted h (now (cells .exit))) ⌝ }
+    ensures { λ r. ⌜ Goes (setHigh identifier high) h (now (cells .entry)) h (now (cells .exit)) r ⌝ }
 {
     let place = sender_head::table::seek(h, cells, identifier);
     let Place::At(i, old) = place else {
@@ -106,7 +106,7 @@ pub fn set_high_threshold(h: Head, cells: &mut [u64], identifier: u16, high: u64
 
 // Bytes of a stream have left the sender. The answer tells whether the amount fell to the low threshold.
 pub fn release(h: Head, cells: &mut [u64], identifier: u16, released: i64) -> Released
-    ensures { λ r. ⌜ (record { after = senderOf h (now (cells .exit)); says = r } ≡ release identifier released (senderOf h (now (cells .entry)))) × (Counted h (now (cells .entry)) → Counted h (now (cells .exit))) ⌝ }
+    ensures { λ r. ⌜ Goes (release identifier released) h (now (cells .entry)) h (now (cells .exit)) r ⌝ }
 {
     let place = sender_head::table::seek(h, cells, identifier);
     let Place::At(i, old) = place else {
@@ -120,7 +120,7 @@ pub fn release(h: Head, cells: &mut [u64], identifier: u16, released: i64) -> Re
 
 // An ordered message has left wholly unsent, so the next one takes its SSN. A stream that is not open has none.
 pub fn lower_next_ssn(h: Head, cells: &mut [u64], identifier: u16)
-    ensures { λ _. ⌜ (senderOf h (now (cells .exit)) ≡ withStreams (dropSsn (find identifier (senderOf h (now (cells .entry)) .streams)) (senderOf h (now (cells .entry)) .streams)) (senderOf h (now (cells .entry)))) × (Counted h (now (cells .entry)) → Counted h (now (cells .exit))) ⌝ }
+    ensures { λ _. ⌜ Becomes (λ s. withStreams (dropSsn (find identifier (s .streams)) (s .streams)) s) h (now (cells .entry)) h (now (cells .exit)) ⌝ }
 {
     let place = sender_head::table::seek(h, cells, identifier);
     let Place::At(i, old) = place else {

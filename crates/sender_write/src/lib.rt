@@ -4,10 +4,10 @@ use model::Stream;
 use model::Written;
 use sender_head::Head;
 use stream_table::Place;
-ghost use mathlib.Core.Path.{_≡_};
 ghost use Rattle.model.specs.Messages.{messageOf, write};
 ghost use Rattle.outbound_send.specs.Pushes.{pushing};
-ghost use Rattle.sender_head.specs.Whole.{roomIn, senderOf, Counted};
+ghost use Rattle.sender_head.specs.Whole.{roomIn};
+ghost use Rattle.sender_head.specs.Calls.{Goes};
 
 pub struct Writing {
     pub head: Head,
@@ -28,7 +28,7 @@ fn enqueue(
     offset: u64,
     length: u32,
 ) -> Queued
-    ensures { λ r. ⌜ (record { after = senderOf (r .head) (now (cells .exit)); says = r .answer } ≡ pushing (roomIn (now (cells .entry)) .ring) (messageOf protocol (h .queue .«next_message_id») stream) (stream .maximum) offset length (senderOf h (now (cells .entry)))) × (Counted h (now (cells .entry)) → Counted (r .head) (now (cells .exit))) ⌝ }
+    ensures { λ r. ⌜ Goes (pushing (roomIn (now (cells .entry)) .ring) (messageOf protocol (h .queue .«next_message_id») stream) (stream .maximum) offset length) h (now (cells .entry)) (r .head) (now (cells .exit)) (r .answer) ⌝ }
 {
     let k = sender_head::table_words(cells);
     let n = cells.len();
@@ -61,7 +61,7 @@ pub fn write(
     offset: u64,
     length: u64,
 ) -> Writing
-    ensures { λ r. ⌜ (record { after = senderOf (r .head) (now (cells .exit)); says = r .answer } ≡ write (roomIn (now (cells .entry))) identifier protocol offset length (senderOf h (now (cells .entry)))) × (Counted h (now (cells .entry)) → Counted (r .head) (now (cells .exit))) ⌝ }
+    ensures { λ r. ⌜ Goes (write (roomIn (now (cells .entry))) identifier protocol offset length) h (now (cells .entry)) (r .head) (now (cells .exit)) (r .answer) ⌝ }
 {
     let found = sender_head::table::seek(h, cells, identifier);
     let Place::At(place, stream) = found else {

@@ -53,8 +53,8 @@ returns c =
     let g = c .before .before .before .before .before .before .before .before .before .give-up-entries .ensures in
     let r = c .before .before .before .before .before .remove-pending .ensures in
     let n = sym (r .2) ∙ c .enum-told .given .1 in (
-      λ room ts h. let s = senderOf ts (a .q) (now (a .cells)) in (gives-none room (a .number) s (g .0 ts) (r .0 ts) n, gives-held (a .number) s (g .0 ts) (g .1) (r .1)),
-      λ k. r .3 (g .2 k),
+      λ room ts h. let s = senderOf ts (a .q) (now (a .cells)) in (gives-none room (a .number) s (g .0 .0 ts) (r .0 .0 ts) n, gives-held (a .number) s (g .0 .0 ts) (g .1) (r .1)),
+      λ k. r .0 .1 (g .0 .1 k),
     )
 
 terminate-requires : tie.Need-terminate-requires
@@ -80,10 +80,10 @@ returns-2 c =
     let e = g .ensures in (
       λ room ts h.
           let s = senderOf ts (a .q) (now (a .cells)) in (
-            gives-one room (a .number) s (e .0 ts) (r .0 ts) (x .0 .0) n (c .before .before .before .terminate .ensures) (room-stays ∙ sym h) (f .0 ts),
-            gives-held (a .number) s (e .0 ts) (e .1) (r .1),
+            gives-one room (a .number) s (e .0 .0 ts) (r .0 .0 ts) (x .0 .0) n (c .before .before .before .terminate .ensures) (room-stays ∙ sym h) (f .0 ts),
+            gives-held (a .number) s (e .0 .0 ts) (e .1) (r .1),
           ),
-      λ k. f .1 (r .3 (e .2 k)),
+      λ k. f .1 (r .0 .1 (e .0 .1 k)),
     )
 
 pub give-up-spec : {M : Type 1} → statement M

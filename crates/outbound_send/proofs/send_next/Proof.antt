@@ -54,8 +54,8 @@ returns-3 c =
     let q = sym (t .1) ∙ c .enum-told .given .1 in (
       λ room ts r.
           let s = senderOf ts (a .q) (now (a .cells)) in
-          does (λ g. lean-send (a .clock) g room) (send-none room (a .clock) s r h (in-range (a .clock) s h (e .0 ts)) (t .0 ts) q),
-      λ k. t .2 (e .1 k),
+          does (λ g. lean-send (a .clock) g room) (send-none room (a .clock) s r h (in-range (a .clock) s h (e .0 ts)) (t .0 .0 ts) q),
+      λ k. t .0 .1 (e .1 k),
     )
 
 stamp-requires : tie.Need-stamp-requires
@@ -82,8 +82,8 @@ returns-4 c =
       λ room ts r.
           let s = senderOf ts (a .q) (now (a .cells)) in
           does (λ g. lean-send (a .clock) g room)
-          (send-one room (a .clock) s r h (in-range (a .clock) s h (e .0 ts)) (t .0 ts) (x .0 .0) (sym (t .1) ∙ x .1) fits (c .before .before .before .before .stamp .ensures) room-stays (f .0 ts) (c .before .before .before .before .before .before .before .before .before .before .before .before .before .before .before .next-tsn .ensures ts)),
-      λ k. f .1 (t .2 (e .1 k)),
+          (send-one room (a .clock) s r h (in-range (a .clock) s h (e .0 ts)) (t .0 .0 ts) (x .0 .0) (sym (t .1) ∙ x .1) fits (c .before .before .before .before .stamp .ensures) room-stays (f .0 ts) (c .before .before .before .before .before .before .before .before .before .before .before .before .before .before .before .next-tsn .ensures ts)),
+      λ k. f .1 (t .0 .1 (e .1 k)),
     )
 
 pub send-next-spec : {M : Type 1} → statement M

@@ -1,9 +1,8 @@
 -- The queue's call, of the whole sender; the table stays.
-use Rattle.sender_head.specs.Whole.{roomIn}
 use denote.Ref.{now}
 use Rattle.outbound_abandon.specs.Lean.{leanAbandon}
 use Rattle.model.specs.Rings.{abandon}
-use Rattle.sender_head.specs.Lent.{open-streams, lent-sender, lent-room, lent-counted, back-sender, back-counted, does-of, told-of}
+use Rattle.sender_head.specs.Lent.{leans-in-lent}
 use borrow.Author.Needs.{needs}
 use Rattle.sender_calls.proofs.abandon.Statement.{statement}
 use Rattle.sender_calls.proofs.abandon.Tie as tie
@@ -32,14 +31,9 @@ same-length c = search needs
 returns : tie.Need-returns
 returns c =
     let a = c .before .before .before .before .before .before .before .before .args in
-    let h = a .h in
-    let ws = now (a .cells) in
     let k = c .before .before .before .before .before .table-words .ensures .0 in
     let m = c .before .before .before .abandon in
-    let q = m .result .queue in
-    let p = m .last .1 .0 in
-    let back = back-sender h ws _ k q p (search needs) in
-    (does-of (leanAbandon (roomIn ws) (a .tsn)) (abandon (a .tsn)) (told-of back) (lent-sender h ws _ k) (m .ensures .0 (roomIn ws) (open-streams h ws _ k) (lent-room h ws _ k)), λ z. back-counted h ws _ k q p (search needs) (m .ensures .1 (lent-counted h ws _ k z)))
+    leans-in-lent (a .h) (now (a .cells)) _ k (m .result .queue) (m .last .1 .0) (search needs) (λ room. leanAbandon room (a .tsn)) (λ room. abandon (a .tsn)) (m .ensures)
 
 pub abandon-spec : {M : Type 1} → statement M
 abandon-spec =

@@ -51,7 +51,7 @@ returns-4 : tie.Need-returns-4
 returns-4 c =
     let a = c .before .before .before .before .before .before .before .before .before .before .before .before .before .before .args in
     let j = c .before .before .before .before .join .ensures in
-    (open-done (roomIn (now (a .cells))) (a .identifier) (a .maximum) (senderOf (a .h) (now (a .cells))) (c .before .before .before .before .before .before .before .before .before .before .before .before .if1 .left) (c .before .before .before .before .before .before .before .before .before .before .before .if2 .left) (sym (c .before .before .before .before .before .before .before .enum-told .given .1) ∙ c .before .before .before .before .before .before .before .before .before .seek .ensures) (j .1) (c .before .before .before .before .before .before .new .ensures) (j .0) (c .if3 .taken), j .2)
+    (open-done (roomIn (now (a .cells))) (a .identifier) (a .maximum) (senderOf (a .h) (now (a .cells))) (c .before .before .before .before .before .before .before .before .before .before .before .before .if1 .left) (c .before .before .before .before .before .before .before .before .before .before .before .if2 .left) (sym (c .before .before .before .before .before .before .before .enum-told .given .1) ∙ c .before .before .before .before .before .before .before .before .before .seek .ensures) (j .1) (c .before .before .before .before .before .before .new .ensures) (j .0 .0) (c .if3 .taken), j .0 .1)
 
 same-length-3 : tie.Need-same-length-3
 same-length-3 c = search needs
@@ -60,7 +60,7 @@ returns-5 : tie.Need-returns-5
 returns-5 c =
     let a = c .before .before .before .before .before .before .before .before .before .before .before .before .before .before .args in
     let j = c .before .before .before .before .join .ensures in
-    (open-full (roomIn (now (a .cells))) (a .identifier) (a .maximum) (senderOf (a .h) (now (a .cells))) (c .before .before .before .before .before .before .before .before .before .before .before .before .if1 .left) (c .before .before .before .before .before .before .before .before .before .before .before .if2 .left) (sym (c .before .before .before .before .before .before .before .enum-told .given .1) ∙ c .before .before .before .before .before .before .before .before .before .seek .ensures) (j .1) (c .before .before .before .before .before .before .new .ensures) (j .0) (c .if3 .left), j .2)
+    (open-full (roomIn (now (a .cells))) (a .identifier) (a .maximum) (senderOf (a .h) (now (a .cells))) (c .before .before .before .before .before .before .before .before .before .before .before .before .if1 .left) (c .before .before .before .before .before .before .before .before .before .before .before .if2 .left) (sym (c .before .before .before .before .before .before .before .enum-told .given .1) ∙ c .before .before .before .before .before .before .before .before .before .seek .ensures) (j .1) (c .before .before .before .before .before .before .new .ensures) (j .0 .0) (c .if3 .left), j .0 .1)
 
 pub open-stream-spec : {M : Type 1} → statement M
 open-stream-spec =

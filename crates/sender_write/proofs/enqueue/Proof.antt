@@ -1,7 +1,14 @@
 -- The queue came back from the push; the table stays.
+use mathlib.Core.Path.{sym, ap₂, _∙_}
+use Prim.Native.Nat.{ℕ}
 use denote.Ref.{now}
-use Rattle.model.specs.Messages.{messageOf}
-use Rattle.sender_write.specs.Halves.{pushed-is, pushed-counted}
+use lib.ListN.{length}
+use Rattle.model.specs.declared.Message.{Message}
+use Rattle.rows.specs.Parts.{part}
+use Rattle.outbound_queue.specs.Outbound.{ringRoom}
+use Rattle.outbound_send.specs.Pushes.{pushing}
+use Rattle.sender_head.specs.Whole.{senderOf}
+use Rattle.sender_head.specs.Lent.{lent-room, goes-lent}
 use borrow.Author.Needs.{needs}
 use Rattle.sender_write.proofs.enqueue.Statement.{statement}
 use Rattle.sender_write.proofs.enqueue.Tie as tie
@@ -36,12 +43,9 @@ returns c =
     let m = c .before .before .before .push in
     let w = c .before .before .before .before .before .before .table-words in
     let ws = now (a .cells) in
-    let p = m .last .1 .0 in
-    let q = m .result .queue in
-    let k = w .ensures .0 in (
-      pushed-is (a .h) ws (w .result) k p (search needs) q (messageOf (a .protocol) (a .h .queue .«next_message_id») (a .stream)) (c .before .before .before .before .before .message .ensures) (a .stream .maximum) (a .offset) (a .length) (m .ensures .0),
-      pushed-counted (a .h) ws (w .result) k p (search needs) q (m .ensures .1),
-    )
+    let x = c .before .before .before .before .before .message in
+    let g = goes-lent (a .h) ws (w .result) (w .ensures .0) (m .result .queue) (m .last .1 .0) (search needs) (pushing (ringRoom (part (w .result) (length ws) ws)) (x .result) (a .stream .maximum) (a .offset) (a .length)) (m .ensures) in
+    (g .0 ∙ ap₂ (λ (room : ℕ) (y : Message). pushing room y (a .stream .maximum) (a .offset) (a .length) (senderOf (a .h) ws)) (sym (lent-room (a .h) ws (w .result) (w .ensures .0))) (x .ensures), g .1)
 
 pub enqueue-spec : {M : Type 1} → statement M
 enqueue-spec =

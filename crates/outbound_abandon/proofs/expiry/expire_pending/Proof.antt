@@ -61,8 +61,8 @@ returns-4 c =
     let y = sym (c .before .before .before .before .before .before .is-expired .ensures) ∙ not-false _ (c .before .before .before .before .before .if2 .left) in
     let r = c .before .before .remove-pending in (
       λ room ts. does (lean-expire (a .clock))
-          (expire-unordered (a .clock) (senderOf ts (a .q) (now (a .cells))) (c .before .before .before .before .before .before .before .before .before .before .before .before .if1 .left) (x .0 .0) e y (λ us. senderOf us (r .result .queue) ws) (r .ensures .1) (c .if3 .taken) (r .ensures .0 ts)),
-      r .ensures .3,
+          (expire-unordered (a .clock) (senderOf ts (a .q) (now (a .cells))) (c .before .before .before .before .before .before .before .before .before .before .before .before .if1 .left) (x .0 .0) e y (λ us. senderOf us (r .result .queue) ws) (r .ensures .1) (c .if3 .taken) (r .ensures .0 .0 ts)),
+      r .ensures .0 .1,
     )
 
 lower-ssns-requires : tie.Need-lower-ssns-requires
@@ -83,8 +83,8 @@ returns-5 c =
       λ room ts.
           let us = dropSsn (find id ts) ts in
           does (lean-expire (a .clock))
-          (expire-ordered (a .clock) (senderOf ts (a .q) (now (a .cells))) (c .before .before .before .before .before .before .before .before .before .before .before .before .before .before .before .before .if1 .left) (x .0 .0) e y (λ vs. senderOf vs (r .result .queue) (l .last .1 .0)) (r .ensures .1) (c .before .before .before .before .if3 .left) (r .ensures .0 us) (l .ensures .0 us)),
-      λ k. l .ensures .1 (r .ensures .3 k),
+          (expire-ordered (a .clock) (senderOf ts (a .q) (now (a .cells))) (c .before .before .before .before .before .before .before .before .before .before .before .before .before .before .before .before .if1 .left) (x .0 .0) e y (λ vs. senderOf vs (r .result .queue) (l .last .1 .0)) (r .ensures .1) (c .before .before .before .before .if3 .left) (r .ensures .0 .0 us) (l .ensures .0 us)),
+      λ k. l .ensures .1 (r .ensures .0 .1 k),
     )
 
 pub expire-pending-spec : {M : Type 1} → statement M

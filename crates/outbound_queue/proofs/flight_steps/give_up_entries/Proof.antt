@@ -51,9 +51,8 @@ returns c =
     let p = m .last .1 .0 in
     let b = flight-back ws p (search needs) in
     let vs = patch (k + k) (k + k + k) ws p in (
-      λ ts. sender-by ts q vs b ∙ ap (λ (f : Flight). withFlight f (senderOf ts (a .q) ws)) (e .0),
+      (λ ts. sender-by ts q vs b ∙ ap (λ (f : Flight). withFlight f (senderOf ts (a .q) ws)) (e .0), λ h. counted-by q vs b (h .0, e .2 (h .1))),
       e .1,
-      λ h. counted-by q vs b (h .0, e .2 (h .1)),
     )
 
 pub give-up-entries-spec : {M : Type 1} → statement M

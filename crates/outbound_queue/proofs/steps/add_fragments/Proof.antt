@@ -1,10 +1,10 @@
 -- The ring of the message came back; the rest stays.
-use mathlib.Core.Path.{_∙_}
+use mathlib.Core.Bool.{true, false}
 use Prim.Native.Nat.{_+_}
 use denote.Ref.{now}
 use Rattle.rows.specs.Parts.{patch}
-use Rattle.outbound_queue.specs.Outbound.{third, ringsIn, remade, unordered-room, ordered-room, unordered-back, ordered-back, sender-by, counted-by}
-use Rattle.outbound_queue.specs.Steps.{joined-unordered, fits-unordered, counted-unordered, joined-ordered, fits-ordered, counted-ordered}
+use Rattle.outbound_queue.specs.Outbound.{third, unordered-room, ordered-room, unordered-back, ordered-back}
+use Rattle.outbound_queue.specs.Steps.{joins}
 use borrow.Author.Needs.{needs}
 use Rattle.outbound_queue.proofs.steps.add_fragments.Statement.{statement}
 use Rattle.outbound_queue.proofs.steps.add_fragments.Tie as tie
@@ -35,21 +35,10 @@ returns c =
     let a = c .before .before .before .before .before .before .before .before .before .args in
     let m = c .before .before .before .push-fragments in
     let w = c .with-fragments in
-    let e = m .ensures in
-    let d = m .result in
     let ws = now (a .cells) in
-    let r = ringsIn ws in
     let k = third ws in
     let p = m .last .1 .0 in
-    let b = unordered-back ws p (search needs) in
-    let vs = patch 0 k ws p in
-    let q = remade (w .result) (a .q .inflight) (a .q) in
-    let h = c .before .before .before .before .before .if1 .taken in
-    let room = unordered-room ws in (
-      λ ts. sender-by ts q vs b ∙ joined-unordered (a .q) r (a .message) (a .maximum) (a .offset) (a .length) room d p h (w .ensures) (e .0) ts,
-      fits-unordered (a .q) r (a .message) (a .maximum) (a .offset) (a .length) room d p h (w .ensures) (e .0) (e .1),
-      λ z. counted-by q vs b (counted-unordered (a .q) r (a .message) (a .maximum) (a .offset) (a .length) room d p h (w .ensures) (e .0) (e .2) z),
-    )
+    joins (a .q) (a .message) (a .maximum) (a .offset) (a .length) ws (patch 0 k ws p) p (unordered-room ws) (m .result) true (unordered-back ws p (search needs)) (c .before .before .before .before .before .if1 .taken) (w .ensures) (m .ensures)
 
 add-push-fragments : tie.Need-add-push-fragments
 add-push-fragments c = search needs
@@ -80,21 +69,10 @@ returns-2 c =
     let a = c .before .before .before .before .before .before .before .before .before .args in
     let m = c .before .before .before .push-fragments2 in
     let w = c .with-fragments2 in
-    let e = m .ensures in
-    let d = m .result in
     let ws = now (a .cells) in
-    let r = ringsIn ws in
     let k = third ws in
     let p = m .last .1 .0 in
-    let b = ordered-back ws p (search needs) in
-    let vs = patch k (k + k) ws p in
-    let q = remade (w .result) (a .q .inflight) (a .q) in
-    let h = c .before .before .before .before .before .if1 .left in
-    let room = ordered-room ws in (
-      λ ts. sender-by ts q vs b ∙ joined-ordered (a .q) r (a .message) (a .maximum) (a .offset) (a .length) room d p h (w .ensures) (e .0) ts,
-      fits-ordered (a .q) r (a .message) (a .maximum) (a .offset) (a .length) room d p h (w .ensures) (e .0) (e .1),
-      λ z. counted-by q vs b (counted-ordered (a .q) r (a .message) (a .maximum) (a .offset) (a .length) room d p h (w .ensures) (e .0) (e .2) z),
-    )
+    joins (a .q) (a .message) (a .maximum) (a .offset) (a .length) ws (patch k (k + k) ws p) p (ordered-room ws) (m .result) false (ordered-back ws p (search needs)) (c .before .before .before .before .before .if1 .left) (w .ensures) (m .ensures)
 
 pub add-fragments-spec : {M : Type 1} → statement M
 add-fragments-spec =

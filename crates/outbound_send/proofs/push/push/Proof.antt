@@ -55,8 +55,8 @@ returns-4 : tie.Need-returns-4
 returns-4 c =
     let a = c .before .before .before .before .before .before .before .before .before .before .before .before .before .before .before .args in
     let j = c .before .before .before .before .add-fragments .ensures in (
-      λ ts. push-none (ringRoom (now (a .cells))) (a .message) (a .maximum) (a .offset) (a .length) (senderOf ts (a .q) (now (a .cells))) (c .before .before .before .before .before .before .before .before .before .before .before .before .before .if1 .left) (c .before .before .before .before .before .before .before .before .before .before .before .before .fragments .ensures .0) (c .before .before .before .before .before .before .before .before .before .before .lacks-room .ensures) (c .before .before .before .before .before .before .before .before .before .if2 .left) (c .before .before .before .before .before .before .before .before .is-spent .ensures .0) (c .before .before .before .before .before .before .before .if3 .left) (c .before .before .before .before .before .before .numbered .ensures) (j .0 ts) (c .if4 .taken),
-      j .2,
+      λ ts. push-none (ringRoom (now (a .cells))) (a .message) (a .maximum) (a .offset) (a .length) (senderOf ts (a .q) (now (a .cells))) (c .before .before .before .before .before .before .before .before .before .before .before .before .before .if1 .left) (c .before .before .before .before .before .before .before .before .before .before .before .before .fragments .ensures .0) (c .before .before .before .before .before .before .before .before .before .before .lacks-room .ensures) (c .before .before .before .before .before .before .before .before .before .if2 .left) (c .before .before .before .before .before .before .before .before .is-spent .ensures .0) (c .before .before .before .before .before .before .before .if3 .left) (c .before .before .before .before .before .before .numbered .ensures) (j .0 .0 ts) (c .if4 .taken),
+      j .0 .1,
     )
 
 add-next : tie.Need-add-next
@@ -69,8 +69,8 @@ returns-5 : tie.Need-returns-5
 returns-5 c =
     let a = c .before .before .before .before .before .before .before .before .before .before .before .before .before .before .before .before .before .args in
     let j = c .before .before .before .before .before .before .add-fragments .ensures in (
-      λ ts. push-some (ringRoom (now (a .cells))) (a .message) (a .maximum) (a .offset) (a .length) (senderOf ts (a .q) (now (a .cells))) (c .before .before .before .before .before .before .before .before .before .before .before .before .before .before .before .if1 .left) (c .before .before .before .before .before .before .before .before .before .before .before .before .before .before .fragments .ensures .0) (c .before .before .before .before .before .before .before .before .before .before .before .before .lacks-room .ensures) (c .before .before .before .before .before .before .before .before .before .before .before .if2 .left) (c .before .before .before .before .before .before .before .before .before .before .is-spent .ensures .0) (c .before .before .before .before .before .before .before .before .before .if3 .left) (c .before .before .before .before .before .before .before .before .numbered .ensures) (j .0 ts) (c .before .before .if4 .left) refl,
-      j .2,
+      λ ts. push-some (ringRoom (now (a .cells))) (a .message) (a .maximum) (a .offset) (a .length) (senderOf ts (a .q) (now (a .cells))) (c .before .before .before .before .before .before .before .before .before .before .before .before .before .before .before .if1 .left) (c .before .before .before .before .before .before .before .before .before .before .before .before .before .before .fragments .ensures .0) (c .before .before .before .before .before .before .before .before .before .before .before .before .lacks-room .ensures) (c .before .before .before .before .before .before .before .before .before .before .before .if2 .left) (c .before .before .before .before .before .before .before .before .before .before .is-spent .ensures .0) (c .before .before .before .before .before .before .before .before .before .if3 .left) (c .before .before .before .before .before .before .before .before .numbered .ensures) (j .0 .0 ts) (c .before .before .if4 .left) refl,
+      j .0 .1,
     )
 
 pub push-spec : {M : Type 1} → statement M

@@ -1,7 +1,7 @@
 -- The queue's call, of the whole sender; the table stays.
 use denote.Ref.{now}
 use Rattle.model.specs.Flight.{acknowledge}
-use Rattle.sender_head.specs.Lent.{open-streams, lent-sender, lent-counted, back-sender, back-counted, said-of}
+use Rattle.sender_head.specs.Lent.{goes-lent}
 use borrow.Author.Needs.{needs}
 use Rattle.sender_calls.proofs.flight.acknowledge.Statement.{statement}
 use Rattle.sender_calls.proofs.flight.acknowledge.Tie as tie
@@ -30,14 +30,9 @@ same-length c = search needs
 returns : tie.Need-returns
 returns c =
     let a = c .before .before .before .before .before .before .before .before .args in
-    let h = a .h in
-    let ws = now (a .cells) in
     let k = c .before .before .before .before .before .table-words .ensures .0 in
     let m = c .before .before .before .mark-as-acked in
-    let q = m .result .queue in
-    let p = m .last .1 .0 in
-    let back = back-sender h ws _ k q p (search needs) in
-    (said-of (acknowledge (a .tsn)) back (lent-sender h ws _ k) (m .ensures .0 (open-streams h ws _ k)), λ z. back-counted h ws _ k q p (search needs) (m .ensures .1 (lent-counted h ws _ k z)))
+    goes-lent (a .h) (now (a .cells)) _ k (m .result .queue) (m .last .1 .0) (search needs) (acknowledge (a .tsn)) (m .ensures)
 
 pub acknowledge-spec : {M : Type 1} → statement M
 acknowledge-spec =

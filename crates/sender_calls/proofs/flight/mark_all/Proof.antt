@@ -1,8 +1,7 @@
 -- The queue's call, of the whole sender; the table stays.
-use mathlib.Core.Path.{ap, _∙_}
 use denote.Ref.{now}
 use Rattle.model.specs.Flight.{markAll}
-use Rattle.sender_head.specs.Lent.{open-streams, lent-sender, lent-counted, back-sender, back-counted}
+use Rattle.sender_head.specs.Lent.{becomes-lent}
 use borrow.Author.Needs.{needs}
 use Rattle.sender_calls.proofs.flight.mark_all.Statement.{statement}
 use Rattle.sender_calls.proofs.flight.mark_all.Tie as tie
@@ -31,14 +30,9 @@ same-length c = search needs
 returns : tie.Need-returns
 returns c =
     let a = c .before .before .before .before .before .before .before .args in
-    let h = a .h in
-    let ws = now (a .cells) in
     let k = c .before .before .before .before .table-words .ensures .0 in
     let m = c .before .before .mark-all-to-retransmit in
-    let p = m .last .1 .0 in (
-      back-sender h ws _ k (h .queue) p (search needs) ∙ m .ensures .0 (open-streams h ws _ k) ∙ ap markAll (lent-sender h ws _ k),
-      λ z. back-counted h ws _ k (h .queue) p (search needs) (m .ensures .1 (lent-counted h ws _ k z)),
-    )
+    becomes-lent (a .h) (now (a .cells)) _ k (a .h .queue) (m .last .1 .0) (search needs) markAll (m .ensures)
 
 pub mark-all-spec : {M : Type 1} → statement M
 mark-all-spec =

@@ -1,8 +1,7 @@
 -- The queue's call, of the whole sender.
-use mathlib.Core.Path.{sym}
 use denote.Ref.{now}
 use Rattle.model.specs.Flight.{pop}
-use Rattle.sender_head.specs.Lent.{open-streams, lent-sender, lent-counted, read-sender, read-counted, said-of}
+use Rattle.sender_head.specs.Lent.{goes-read}
 use borrow.Author.Needs.{needs}
 use Rattle.sender_calls.proofs.flight.pop.Statement.{statement}
 use Rattle.sender_calls.proofs.flight.pop.Tie as tie
@@ -28,14 +27,9 @@ pop-requires c κs = search needs
 returns : tie.Need-returns
 returns c =
     let a = c .before .before .before .before .before .args in
-    let h = a .h in
-    let ws = now (a .cells) in
     let k = c .before .before .before .table-words .ensures .0 in
     let m = c .before .pop in
-    let q = m .result .queue in (
-      said-of (pop (a .tsn)) (sym (read-sender h ws _ k q)) (lent-sender h ws _ k) (m .ensures .0 (open-streams h ws _ k)),
-      λ z. read-counted h ws _ k q (m .ensures .1 (lent-counted h ws _ k z)),
-    )
+    goes-read (a .h) (now (a .cells)) _ k (m .result .queue) (pop (a .tsn)) (m .ensures)
 
 pub pop-spec : {M : Type 1} → statement M
 pop-spec =

@@ -40,9 +40,8 @@ returns c =
     let p = m .last .1 .0 in
     let n = a .h .streams in
     let o = m .result .count in (
-      table-changed (a .h) ws p (k .result) (k .ensures .0) (search needs) o (λ (w : List ℕ). joined (roomOf w) (tableOf n w) (a .stream)) (m .ensures .0),
+      (table-changed (a .h) ws p (k .result) (k .ensures .0) (search needs) o (λ (w : List ℕ). joined (roomOf w) (tableOf n w) (a .stream)) (m .ensures .0), counted-still (a .h) ws p (k .result) (k .ensures .0) (search needs) o),
       m .ensures .1 ∙ ap (λ (x : Halves). ltb (length (tableOf n (x .table))) (roomOf (x .table))) (parts-are ws (k .result) (k .ensures .0)),
-      counted-still (a .h) ws p (k .result) (k .ensures .0) (search needs) o,
     )
 
 pub join-spec : {M : Type 1} → statement M
