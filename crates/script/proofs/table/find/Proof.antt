@@ -1,4 +1,4 @@
--- The rows before it have another name, or another number of words.
+-- The rows before it have another name, or another number of words. 
 use mathlib.Core.Path.{_≡_, sym, subst, _∙_}
 use Prim.Native.Nat.{ℕ, _-_, _≤_}
 use native.Mathlib.Omega.{arith}
