@@ -1,4 +1,4 @@
--- By what the word is. 
+-- By what the word is.
 use mathlib.Core.Path.{ap, sym, _∙_}
 use Rattle.words.specs.declared.Token.{Token}
 use Rattle.script.specs.Arguments.{figureOf}

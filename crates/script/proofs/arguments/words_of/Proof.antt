@@ -1,4 +1,4 @@
--- From the last argument to the first. 
+-- From the last argument to the first.
 use borrow.Author.Needs.{needs}
 use Rattle.script.proofs.arguments.words_of.Statement.{statement}
 use Rattle.script.proofs.arguments.words_of.Tie as tie

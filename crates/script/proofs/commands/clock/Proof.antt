@@ -1,4 +1,4 @@
--- By the row. 
+-- By the row.
 use Rattle.coded_calls.specs.Picked.{passed}
 use Rattle.script.specs.declared.commands.Command.{Command}
 use Rattle.script.specs.Commands.{clocks, clockOf}
