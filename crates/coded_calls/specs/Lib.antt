@@ -1,8 +1,9 @@
 -- Tapes: what was written, and what comes behind it.
 pub mod Tapes
--- Coded: the table of coded calls. Picked: one row of it.
+-- Coded: the table of coded calls. Picked: one row of it. Onto: it reaches every call.
 pub mod Coded
 pub mod Picked
+pub mod Onto
 -- Words: the answers as words. Worded: of values that are the same. Back: an answer is read back from its words.
 pub mod Words
 pub mod Worded
