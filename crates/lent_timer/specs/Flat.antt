@@ -1,20 +1,21 @@
 -- The six timers as numbers alone, and 01's number and the values of each answer.
-use mathlib.Core.Path.{_≡_, refl, _∙_}
-use mathlib.Core.Bool.{Bool, true, false, not}
+use mathlib.Core.Path.{_≡_, refl, ap, _∙_}
+use mathlib.Core.Bool.{Bool, true, false}
 use mathlib.Core.List.{List, [], _∷_}
 use Prim.Native.Nat.{ℕ}
 use native.Mathlib.Omega.{arith}
-use lib.Dec.{eqb}
 use lib.ListN.{length, getD}
 use Rattle.limits.specs.declared.Moment.{Moment}
+use Rattle.limits.specs.Flags.{bitOf, isSet, set-back}
+use Rattle.limits.specs.Moments.{present, timeOf, momentOf, moment-back}
 use Rattle.limits.specs.Refusals.{done, beyondLimit}
 use Rattle.timer.specs.declared.Timer.{Timer}
 use Rattle.timer.specs.declared.Found.{Found}
 use Rattle.timer.specs.declared.Maximum.{Maximum}
 use Rattle.timer.specs.declared.Entry.{Entry}
 use Rattle.timer.specs.Entries.{idleEntry}
+use Rattle.timer.specs.Calls.{numberOf}
 use Rattle.timer.specs.declared.TimerTable.{TimerTable}
-use Rattle.timer.specs.declared.Answer.{Answer}
 use Rattle.timer.specs.declared.Expiry.{Expiry}
 use Rattle.timer.specs.declared.Changed.{Changed}
 use Rattle.timer.specs.declared.Checked.{Checked}
@@ -24,14 +25,6 @@ use Rattle.lent_timer.specs.declared.TimersReply.{TimersReply}
 use Rattle.lent_timer.specs.declared.Due.{Due}
 
 -- ---- what the numbers mean
-
--- any byte but 0 is yes
-abbrev pub isSet : ℕ → Bool
-isSet n = not (eqb n 0)
-
-abbrev pub momentOf : (is : Bool) → (time : ℕ) → Moment
-momentOf true t = Moment.At t
-momentOf false t = Moment.Absent
 
 abbrev pub maximumOf : (is : Bool) → (most : ℕ) → Maximum
 maximumOf true m = Maximum.Of m
@@ -50,18 +43,6 @@ tableOf t =
 
 -- ---- and back
 
-abbrev pub bit : Bool → ℕ
-bit true = 1
-bit false = 0
-
-abbrev pub present : Moment → Bool
-present Moment.Absent = false
-present (Moment.At t) = true
-
-abbrev pub timeOf : Moment → ℕ
-timeOf Moment.Absent = 0
-timeOf (Moment.At t) = t
-
 abbrev pub limited : Maximum → Bool
 limited Maximum.Unlimited = false
 limited (Maximum.Of m) = true
@@ -74,7 +55,7 @@ abbrev pub flatWith : (deadline maximum retrans hasDeadline hasMaximum suppresse
 flatWith d m r b c s = record { deadline = d; maximum = m; retrans = r; «has_deadline» = b; «has_maximum» = c; suppressed = s }
 
 abbrev pub flatEntry : Entry → FlatTimer
-flatEntry e = flatWith (timeOf (e .deadline)) (mostOf (e .maximum)) (e .retrans) (bit (present (e .deadline))) (bit (limited (e .maximum))) (bit (e .suppressed))
+flatEntry e = flatWith (timeOf (e .deadline)) (mostOf (e .maximum)) (e .retrans) (bitOf (present (e .deadline))) (bitOf (limited (e .maximum))) (bitOf (e .suppressed))
 
 -- the i-th of the six
 abbrev pub nth : ℕ → TimerTable → Entry
@@ -87,20 +68,15 @@ abbrev pub flatTable : TimerTable → Timers
 flatTable t = timersOf (flatEntry (nth 0 t)) (flatEntry (nth 1 t)) (flatEntry (nth 2 t)) (flatEntry (nth 3 t)) (flatEntry (nth 4 t)) (flatEntry (nth 5 t)) (t .«rto_max»)
 
 -- nothing is lost: what was packed means what it was
-set-is : (b : Bool) → isSet (bit b) ≡ b
-set-is true = refl
-set-is false = refl
+moment-is : (m : Moment) → momentOf (isSet (bitOf (present m))) (timeOf m) ≡ m
+moment-is m = ap (λ (b : Bool). momentOf b (timeOf m)) (set-back (present m)) ∙ moment-back m
 
-moment-is : (m : Moment) → momentOf (isSet (bit (present m))) (timeOf m) ≡ m
-moment-is Moment.Absent = refl
-moment-is (Moment.At t) = refl
-
-maximum-is : (m : Maximum) → maximumOf (isSet (bit (limited m))) (mostOf m) ≡ m
+maximum-is : (m : Maximum) → maximumOf (isSet (bitOf (limited m))) (mostOf m) ≡ m
 maximum-is Maximum.Unlimited = refl
 maximum-is (Maximum.Of m) = refl
 
 entry-is : (e : Entry) → entryOf (flatEntry e) ≡ e
-entry-is e = λ i. record { deadline = moment-is (e .deadline) i; retrans = e .retrans; maximum = maximum-is (e .maximum) i; suppressed = set-is (e .suppressed) i }
+entry-is e = λ i. record { deadline = moment-is (e .deadline) i; retrans = e .retrans; maximum = maximum-is (e .maximum) i; suppressed = set-back (e .suppressed) i }
 
 six : (l : List Entry) (d : Entry) → length l ≡ 6 → getD l 0 d ∷ getD l 1 d ∷ getD l 2 d ∷ getD l 3 d ∷ getD l 4 d ∷ getD l 5 d ∷ [] ≡ l
 six [] d h = absurd (omega arith)
@@ -126,10 +102,6 @@ reply t n k e f = record { timers = t; count = k; refusal = n; expired = e; fail
 -- 01's number alone
 abbrev pub only : Timers → ℕ → TimersReply
 only t n = reply t n 0 false false
-
-abbrev pub numberOf : Answer → ℕ
-numberOf Answer.Done = done
-numberOf (Answer.Refused n) = n
 
 abbrev pub flatChanged : Changed → TimersReply
 flatChanged c = only (flatTable (c .table)) (numberOf (c .answer))

@@ -12,9 +12,11 @@ use timer::Timer;
 use timer::TimerTable;
 ghost use mathlib.Core.Path.{_≡_};
 ghost use Rattle.timer.specs.Entries.{timerAt};
-ghost use Rattle.timer.specs.Calls.{newOf, setOf, getOf, nextTimeoutOf, startOf, restartIfStaleOf, stopOf, resetRetransOf, suppressErrorCountOf, isExpiredOf};
-ghost use Rattle.lent_timer.specs.Flat.{momentOf, maximumOf, entryOf, tableOf, bit, present, timeOf, limited, mostOf, flatEntry, flatTable};
-ghost use Rattle.lent_timer.specs.Flat.{only, numberOf, flatChanged, flatExpiry, flatChecked, flatDue, onTimer, dueOn};
+ghost use Rattle.timer.specs.Calls.{numberOf, newOf, setOf, getOf, nextTimeoutOf, startOf, restartIfStaleOf, stopOf, resetRetransOf, suppressErrorCountOf, isExpiredOf};
+ghost use Rattle.limits.specs.Flags.{bitOf};
+ghost use Rattle.limits.specs.Moments.{present, timeOf, momentOf};
+ghost use Rattle.lent_timer.specs.Flat.{maximumOf, entryOf, tableOf, limited, mostOf, flatEntry, flatTable};
+ghost use Rattle.lent_timer.specs.Flat.{only, flatChanged, flatExpiry, flatChecked, flatDue, onTimer, dueOn};
 
 // The flags are bytes, so that no byte that a caller may hand over is without a meaning.
 #[repr(C)]
@@ -59,7 +61,7 @@ pub struct Due {
 // ---- one timer
 
 fn flag(b: bool) -> u8
-    ensures { λ r. ⌜ r ≡ bit b ⌝ }
+    ensures { λ r. ⌜ r ≡ bitOf b ⌝ }
 {
     if b {
         return 1;

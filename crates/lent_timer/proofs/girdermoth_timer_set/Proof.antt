@@ -2,9 +2,9 @@
 use mathlib.Core.Path.{ap, sym, _∙_}
 use Rattle.timer.specs.declared.Found.{Found}
 use Rattle.timer.specs.declared.Timer.{Timer}
-use Rattle.timer.specs.declared.TimerTable.{TimerTable}
 use Rattle.timer.specs.Calls.{setOf}
-use Rattle.lent_timer.specs.Flat.{flatChanged, momentOf, onTimer, tableOf}
+use Rattle.limits.specs.Moments.{momentOf}
+use Rattle.lent_timer.specs.Flat.{flatChanged, onTimer, tableOf}
 use borrow.Author.Needs.{needs}
 use Rattle.lent_timer.proofs.girdermoth_timer_set.Statement.{statement}
 use Rattle.lent_timer.proofs.girdermoth_timer_set.Tie as tie

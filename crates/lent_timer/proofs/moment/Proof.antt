@@ -1,7 +1,7 @@
 -- A flag that is set has a number.
 use mathlib.Core.Path.{ap, sym}
 use mathlib.Core.Bool.{Bool}
-use Rattle.lent_timer.specs.Flat.{momentOf}
+use Rattle.limits.specs.Moments.{momentOf}
 use borrow.Author.Needs.{needs}
 use Rattle.lent_timer.proofs.moment.Statement.{statement}
 use Rattle.lent_timer.proofs.moment.Tie as tie

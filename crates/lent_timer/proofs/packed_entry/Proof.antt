@@ -1,6 +1,7 @@
 -- Each number is what the functions of one field say.
 use mathlib.Core.Path.{ap, _∙_}
-use Rattle.lent_timer.specs.Flat.{bit, flatWith}
+use Rattle.limits.specs.Flags.{bitOf}
+use Rattle.lent_timer.specs.Flat.{flatWith}
 use borrow.Author.Needs.{needs}
 use Rattle.lent_timer.proofs.packed_entry.Statement.{statement}
 use Rattle.lent_timer.proofs.packed_entry.Tie as tie
@@ -28,7 +29,7 @@ flag-requires-3 c κs = search needs
 
 returns : tie.Need-returns
 returns c =
-    λ i. flatWith (c .before .before .before .before .before .before .time-of .ensures i) (c .before .before .before .before .before .most-of .ensures i) (c .before .before .before .before .before .before .before .args .e .retrans) ((c .before .before .flag .ensures ∙ ap bit (c .before .before .before .before .is-present .ensures)) i) ((c .before .flag2 .ensures ∙ ap bit (c .before .before .before .is-limited .ensures)) i) (c .flag3 .ensures i)
+    λ i. flatWith (c .before .before .before .before .before .before .time-of .ensures i) (c .before .before .before .before .before .most-of .ensures i) (c .before .before .before .before .before .before .before .args .e .retrans) ((c .before .before .flag .ensures ∙ ap bitOf (c .before .before .before .before .is-present .ensures)) i) ((c .before .flag2 .ensures ∙ ap bitOf (c .before .before .before .is-limited .ensures)) i) (c .flag3 .ensures i)
 
 pub packed-entry-spec : {M : Type 1} → statement M
 packed-entry-spec =

@@ -1,5 +1,5 @@
 -- By what `moment` and `maximum_of` ensure.
-use Rattle.lent_timer.specs.Flat.{isSet}
+use Rattle.limits.specs.Flags.{isSet}
 use borrow.Author.Needs.{needs}
 use Rattle.lent_timer.proofs.unpacked_entry.Statement.{statement}
 use Rattle.lent_timer.proofs.unpacked_entry.Tie as tie
