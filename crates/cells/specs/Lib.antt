@@ -1,3 +1,3 @@
--- Slots: what a slice of words holds, eight to a slot. Words: numbers, bits and moments in words.
+-- Slots: what a slice of words holds, eight to a slot. Words: numbers and bits in words.
 pub mod Slots
 pub mod Words

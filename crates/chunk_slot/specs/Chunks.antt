@@ -6,11 +6,12 @@ use Prim.Native.Nat.{ℕ, _+_, _*_, _≤_, _<_}
 use native.Mathlib.Nat.{add-zero}
 use native.Mathlib.Omega.{arith}
 use lib.ListN.{length, getD, List·getD-eq-default}
+use Rattle.limits.specs.Moments.{present, timeOf, momentOf, moment-back}
 use Rattle.model.specs.declared.Chunk.{Chunk}
 use Rattle.model.specs.Records.{makeMessage, renewed, makeChunk, withMessage, sentAs}
 pub use Rattle.model.specs.Records.{blankChunk}
 use Rattle.cells.specs.Slots.{roomOf, slotsOf, slots-past, slots-get, word-at}
-use Rattle.cells.specs.Words.{lowOf, highOf, flagsOf, isSet, timeOf, momentOf, moment-back}
+use Rattle.cells.specs.Words.{lowOf, highOf, flagsOf}
 use Rattle.chunk_slot.specs.Marks.{Marks, marksIn, marksWord, marks-back}
 
 -- a word of the small fields, where the flags are two numbers
@@ -61,7 +62,7 @@ chunk-at i ws h =
 -- the small fields of a chunk
 abbrev pub marksOf : Chunk → Marks
 marksOf c =
-    record { stream = c .message .stream; ssn = c .message .ssn; kind = c .message .reliability .kind; unordered = c .message .unordered; beginning = c .beginning; ending = c .ending; acked = c .acked; abandoned = c .abandoned; retransmit = c .retransmit; timed = isSet (c .message .deadline); sent = isSet (c .since) }
+    record { stream = c .message .stream; ssn = c .message .ssn; kind = c .message .reliability .kind; unordered = c .message .unordered; beginning = c .beginning; ending = c .ending; acked = c .acked; abandoned = c .abandoned; retransmit = c .retransmit; timed = present (c .message .deadline); sent = present (c .since) }
 
 whole : (c : Chunk) → chunkFrom (c .message .number) (timeOf (c .message .deadline)) (timeOf (c .since)) (c .offset) (c .message .protocol) (c .message .reliability .value) (c .length) (c .nsent) (marksOf c) ≡ c
 unfolding chunkFrom
@@ -75,8 +76,8 @@ pub record Stored (c : Chunk) (d s t z p f m : ℕ) (a b : Bool) : Type 0 where
   pub sent : s ≡ timeOf (c .since)
   pub types : (lowOf t ≡ c .message .protocol) × (highOf t ≡ c .message .reliability .value)
   pub sizes : (lowOf z ≡ c .length) × (highOf z ≡ c .nsent)
-  pub timed : a ≡ isSet (c .message .deadline)
-  pub flown : b ≡ isSet (c .since)
+  pub timed : a ≡ present (c .message .deadline)
+  pub flown : b ≡ present (c .since)
   pub pending : p ≡ flagsOf (c .message .unordered) (c .beginning) (c .ending) (c .acked)
   pub flying : f ≡ flagsOf (c .abandoned) (c .retransmit) a b
   pub marks : Packed (c .message .stream) (c .message .ssn) (c .message .reliability .kind) p f m
@@ -84,7 +85,7 @@ pub record Stored (c : Chunk) (d s t z p f m : ℕ) (a b : Bool) : Type 0 where
 pub chunk-back : (c : Chunk) {d s t z p f m : ℕ} {a b : Bool} → Stored c d s t z p f m a b → chunkOf (c .message .number) d s (c .offset) t z m ≡ c
 unfolding marksWord
 chunk-back c {p = p} {f = f} {m = m} {a = a} {b = b} q =
-    let flying : f ≡ flagsOf (c .abandoned) (c .retransmit) (isSet (c .message .deadline)) (isSet (c .since)) = cc in
+    let flying : f ≡ flagsOf (c .abandoned) (c .retransmit) (present (c .message .deadline)) (present (c .since)) = cc in
     let w : m ≡ marksWord (marksOf c) + 0 * 281474976710656 = omega (arith, q .marks .word, q .pending) in
     let x = ap marksIn w ∙ marks-back (marksOf c) 0 (q .marks .stream) (q .marks .ssn) (q .marks .kind) in
     cc (whole c)

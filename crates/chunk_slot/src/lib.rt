@@ -21,13 +21,13 @@ use model::Reliability;
 ghost use mathlib.Core.Path.{_≡_};
 ghost use Prim.Native.Nat.{_≤_};
 ghost use lib.ListN.{getD, set};
-ghost use Rattle.cells.specs.Words.{isSet, timeOf, momentOf};
+ghost use Rattle.limits.specs.Moments.{present, timeOf, momentOf};
 ghost use Rattle.chunk_slot.specs.Chunks.{Packed, chunkOf, chunks, blankChunk};
 
 // ---- words
 
 fn is_set(moment: Moment) -> bool
-    ensures { λ r. ⌜ r ≡ isSet moment ⌝ }
+    ensures { λ r. ⌜ r ≡ present moment ⌝ }
 {
     match moment {
         Moment::Absent => false,

@@ -1,7 +1,7 @@
 -- 01's number and the values of each answer's case, flat. What a case does not have is 0.
 use mathlib.Core.Bool.{Bool, true, false}
 use Prim.Native.Nat.{ℕ}
-use Rattle.limits.specs.declared.Moment.{Moment}
+pub use Rattle.limits.specs.Moments.{present, timeOf}
 use Rattle.limits.specs.Refusals.{done}
 use Rattle.model.specs.declared.Chunk.{Chunk}
 use Rattle.model.specs.declared.Done.{Done}
@@ -63,14 +63,6 @@ flatCounted (Counted.Are x) = record { messages = x .messages; bytes = x .bytes;
 flatCounted (Counted.Refused n) = record { messages = 0; bytes = 0; refusal = n }
 
 -- ---- chunks
-
-abbrev pub present : Moment → Bool
-present Moment.Absent = false
-present (Moment.At t) = true
-
-abbrev pub timeOf : Moment → ℕ
-timeOf Moment.Absent = 0
-timeOf (Moment.At t) = t
 
 -- with these for its two moments
 abbrev pub fragmentWith : (tsn : ℕ) → Chunk → (until : Bool) → (deadline : ℕ) → (sent : Bool) → (since : ℕ) → Fragment

@@ -1,8 +1,7 @@
 -- The round-trip estimator as numbers alone, and 01's number and the values of each answer.
-use mathlib.Core.Path.{_≡_, refl}
-use mathlib.Core.Bool.{Bool, true, false, not}
+use mathlib.Core.Path.{_≡_}
 use Prim.Native.Nat.{ℕ}
-use lib.Dec.{eqb}
+use Rattle.limits.specs.Flags.{bitOf, isSet, set-back}
 use Rattle.limits.specs.Refusals.{done}
 use Rattle.rto.specs.declared.RtoManager.{RtoManager}
 use Rattle.rto.specs.declared.Made.{Made}
@@ -11,14 +10,6 @@ use Rattle.rto.specs.declared.Set.{Set}
 use Rattle.rto.specs.Rto.{f64}
 use Rattle.lent_rto.specs.declared.Rto.{Rto}
 use Rattle.lent_rto.specs.declared.RtoReply.{RtoReply}
-
--- any byte but 0 is yes
-abbrev pub isSet : ℕ → Bool
-isSet n = not (eqb n 0)
-
-abbrev pub bit : Bool → ℕ
-bit true = 1
-bit false = 0
 
 -- what the numbers mean
 abbrev pub managerOf : Rto → RtoManager
@@ -39,16 +30,12 @@ flatWith m b =
     record { rttvar = m .rttvar; srtt = m .srtt; rto = m .rto; «rto_initial» = m .«rto_initial»; «rto_min» = m .«rto_min»; «rto_max» = m .«rto_max»; «no_update» = b }
 
 abbrev pub flatRto : RtoManager → Rto
-flatRto m = flatWith m (bit (m .«no_update»))
+flatRto m = flatWith m (bitOf (m .«no_update»))
 
 -- nothing is lost: what was packed means what it was
-set-is : (b : Bool) → isSet (bit b) ≡ b
-set-is true = refl
-set-is false = refl
-
 pub manager-is : (m : RtoManager) → managerOf (flatRto m) ≡ m
 manager-is m =
-    λ i. record { srtt = m .srtt; rttvar = m .rttvar; rto = m .rto; «no_update» = set-is (m .«no_update») i; «rto_initial» = m .«rto_initial»; «rto_min» = m .«rto_min»; «rto_max» = m .«rto_max» }
+    λ i. record { srtt = m .srtt; rttvar = m .rttvar; rto = m .rto; «no_update» = set-back (m .«no_update») i; «rto_initial» = m .«rto_initial»; «rto_min» = m .«rto_min»; «rto_max» = m .«rto_max» }
 
 -- all numbers 0
 abbrev pub noRto : Rto

@@ -6,7 +6,8 @@ use rto::RtoManager;
 use rto::Set;
 ghost use mathlib.Core.Path.{_≡_};
 ghost use Rattle.rto.specs.Rto.{newOf, measuredOf, getOf, resetOf, setOf};
-ghost use Rattle.lent_rto.specs.Flat.{bit, managerOf, flatRto, reply, flatMade, flatMeasured, flatSet};
+ghost use Rattle.limits.specs.Flags.{bitOf};
+ghost use Rattle.lent_rto.specs.Flat.{managerOf, flatRto, reply, flatMade, flatMeasured, flatSet};
 
 // The flag is a byte, so that no byte that a caller may hand over is without a meaning.
 #[repr(C)]
@@ -28,7 +29,7 @@ pub struct RtoReply {
 }
 
 fn flag(b: bool) -> u8
-    ensures { λ r. ⌜ r ≡ bit b ⌝ }
+    ensures { λ r. ⌜ r ≡ bitOf b ⌝ }
 {
     if b {
         return 1;

@@ -1,4 +1,5 @@
--- Document 01's limits and refusals, and moments of the clock, as the definitions of every crate cite them.
+-- Document 01's limits and refusals, moments of the clock, and flags, as the definitions of every crate cite them.
 pub mod Limits
 pub mod Refusals
 pub mod Moments
+pub mod Flags

@@ -1,6 +1,7 @@
 -- Moments of the clock that may be missing.
 use Prim.Native.Nat.{ℕ, min}
-use mathlib.Core.Bool.{Bool, false}
+use mathlib.Core.Path.{_≡_, refl}
+use mathlib.Core.Bool.{Bool, true, false}
 use lib.Dec.{leb, ltb}
 use Rattle.limits.specs.declared.Moment.{Moment}
 use Rattle.limits.specs.declared.Moment.the-variants.{Absent, At}
@@ -25,3 +26,24 @@ abbrev pub earlier : Moment → Moment → Moment
 earlier Absent b = b
 earlier (At x) Absent = At x
 earlier (At x) (At y) = At (min x y)
+
+-- ---- a moment as a flag and a number
+
+-- whether there is one
+abbrev pub present : Moment → Bool
+present Absent = false
+present (At t) = true
+
+-- its time, and 0 where there is none
+abbrev pub timeOf : Moment → ℕ
+timeOf Absent = 0
+timeOf (At t) = t
+
+abbrev pub momentOf : (is : Bool) → (time : ℕ) → Moment
+momentOf true t = At t
+momentOf false t = Absent
+
+-- every moment comes back as it was
+pub moment-back : (m : Moment) → momentOf (present m) (timeOf m) ≡ m
+moment-back Absent = refl
+moment-back (At t) = refl

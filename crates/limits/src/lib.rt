@@ -8,18 +8,12 @@ pub const CLOCK_MAX: u64 = 1_099_511_627_776;
 pub const SETTING_MAX: u64 = 4_294_967_295;
 // Expiries that a timer counts.
 pub const COUNT_MAX: u32 = 4_294_967_295;
-// Streams that are open at once.
-pub const STREAMS: usize = 64;
 // Bytes of a chunk's payload.
 pub const PAYLOAD_MAX: u32 = 65_515;
 // Bytes of a message.
 pub const MESSAGE_MAX: u64 = 65_536;
 // The offset at which a message is given.
 pub const OFFSET_MAX: u64 = 4_294_967_295;
-// Chunks in each of the two rings of pending chunks.
-pub const RING_ROOM: usize = 256;
-// Entries in flight; the last is kept for a terminator.
-pub const FLIGHT_ROOM: usize = 256;
 // The buffered amount of a stream, in bytes.
 pub const BUFFERED_MAX: u64 = 4_294_967_295;
 

@@ -24,7 +24,7 @@ use Rattle.payload_queue.specs.Model.{withFlight}
 use Rattle.pending_queue.specs.Runs.{runs, withoutRuns, runs-without, runs-pending}
 use Rattle.outbound_queue.specs.Outbound.{Good}
 use Rattle.outbound_abandon.specs.Lean.{closedBy, leanlyAbandoned, leanlyHeld, leanlyAbandoning, leanAbandon}
-use Rattle.outbound_queue.specs.Asked.{found-some, found-none}
+use Rattle.ring.specs.Held.{found-some, found-none}
 
 -- ---- in a Good state the leading runs are the whole message, and its terminator has a place
 

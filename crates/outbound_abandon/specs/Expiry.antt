@@ -22,7 +22,7 @@ use Rattle.model.specs.Rings.{head, lowered, dropSsn, compacted, bytes, overdue
 use Rattle.model.specs.Flight.{found}
 use Rattle.pending_queue.specs.Runs.{runs, withoutRuns, runs-without, runs-pending}
 use Rattle.outbound_queue.specs.Outbound.{Good}
-use Rattle.outbound_queue.specs.Asked.{found-some, found-none}
+use Rattle.ring.specs.Held.{found-some, found-none}
 use Rattle.outbound_abandon.specs.LeanExpiry.{dropped, leanlyExpiring, leanExpire}
 
 -- ---- the tests, by what code finds of their parts

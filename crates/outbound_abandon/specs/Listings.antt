@@ -27,6 +27,7 @@ use Rattle.demands.specs.States.{Has}
 use Rattle.chunk_slot.specs.Chunks.{blankChunk}
 use Rattle.payload_queue.specs.declared.Pending.{Pending}
 use Rattle.payload_queue.specs.Queue.{isAwaited, overdueTsns, listed, written}
+use Rattle.ring.specs.Held.{found-some}
 use Rattle.payload_queue.specs.Model.{Names, expired-is}
 use Rattle.pending_queue.specs.Queue.{underWayOf, some-in}
 use Rattle.outbound_queue.specs.Outbound.{Good}
@@ -40,8 +41,7 @@ named-none (Sending l) none e = refl
 named-none (Sending l) (some c) e = let z : _≡_ {A = ℕ} 0 1 = cc in absurd (omega arith)
 
 named-one : (l : Lane) (h : Option Chunk) (c : Chunk) → found h ≡ Found.One c → Pending.Message (c .message .number) ≡ named (numberOfHead (Sending l) h)
-named-one l none c e = let z : _≡_ {A = ℕ} 0 1 = cc in absurd (omega arith)
-named-one l (some d) c e = let q : c ≡ d = cc in ap (λ (y : Chunk). Pending.Message (y .message .number)) q
+named-one l h c e = sym (ap (λ (o : Option Chunk). named (numberOfHead (Sending l) o)) (found-some h c e))
 
 pub named-idle : {b : Bool} (u : Bool) (h : Option Chunk) → b ≡ false → Pending.Nothing ≡ named (numberOfHead (underWayOf b u) h)
 named-idle u h e = sym (ap (λ (t : Bool). named (numberOfHead (underWayOf t u) h)) e)

@@ -18,7 +18,7 @@ use Rattle.model.specs.Flight.{found}
 use Rattle.outbound_queue.specs.Outbound.{Good}
 use Rattle.outbound_abandon.specs.Lean.{leanlyAbandoned, leanlyHeld}
 use Rattle.outbound_abandon.specs.LeanExpiry.{leanlyTailExpiring, leanExpireTail}
-use Rattle.outbound_queue.specs.Asked.{found-some, found-none}
+use Rattle.ring.specs.Held.{found-some, found-none}
 use Rattle.outbound_abandon.specs.Abandons.{lean-abandoned, lean-held}
 
 -- ---- in a Good state the leading runs are the whole message, and its terminator has a place

@@ -15,7 +15,7 @@ use Rattle.ring.specs.Held.{held}
 use Rattle.pending_queue.specs.declared.cutting.Added.{Added}
 use Rattle.pending_queue.specs.declared.PendingQueue.{PendingQueue}
 use Rattle.pending_queue.specs.Queue.{both, counted-more}
-use Rattle.pending_queue.specs.Fragments.{withFragments, added, fits}
+use Rattle.pending_queue.specs.Fragments.{Adds, withFragments, added, fits}
 use Rattle.pending_queue.specs.Adding.{withAdded}
 use Rattle.pending_queue.specs.Lifetimes.{startedEnd, started-bytes}
 use Rattle.outbound_queue.specs.declared.OutboundQueue.{OutboundQueue}
@@ -86,7 +86,7 @@ module _ (q : OutboundQueue) (x : Message) (m off l : ℕ) (ws vs w : List ℕ) 
   summed false h k =
       (counted-more (q .pending) (ringsIn ws .unordered) (ringsIn ws .ordered) (q .pending .unordered) (d .ring) (ringsIn ws .unordered) w (d .bytes) (omega (arith, h)) refl (k .0), k .1)
 
-  pub joins : (held (d .ring) w ≡ added n x m off l (at (laneOf lane) waited)) × (d .done ≡ fits n m off l (at (laneOf lane) waited)) × (bytes (held (d .ring) w) ≡ bytes (at (laneOf lane) waited) + d .bytes) → Joins x m off l q ws (anew p) vs (d .done)
+  pub joins : Adds n x m off l (at (laneOf lane) waited) (held (d .ring) w) (d .bytes) (d .done) → Joins x m off l q ws (anew p) vs (d .done)
   joins g = (
     (λ ts. sender-by ts (anew p) vs back ∙ ap (λ (y : Pending). withPending y (senderOf ts q ws)) (joined (g .0)), λ k. counted-by (anew p) vs back (subst (λ (y : PendingQueue). CountedIn (anew y) (relent lane w (ringsIn ws))) (sym f) (summed lane (g .2) k))),
     g .1 ∙ ap (λ (k : ℕ). fits k m off l (at (laneOf lane) waited)) same ∙ ap (λ (t : Bool). fits (ringRoom ws) m off l (at (laneOf t) waited)) (sym e),

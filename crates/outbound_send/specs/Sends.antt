@@ -23,6 +23,7 @@ use Rattle.model.specs.State.{Sender, Pending, Out, at, inRings, same, nextTsn,
 use Rattle.model.specs.Rings.{headLane, head, started, startLifetimes, withLifetimes, send, sending, sentAt, taken}
 use Rattle.model.specs.Flight.{found}
 use Rattle.rows.specs.Walks.{all}
+use Rattle.ring.specs.Held.{found-none, found-some, first-none}
 use Rattle.payload_queue.specs.Queue.{filed}
 use Rattle.payload_queue.specs.Model.{withFlight}
 use Rattle.pending_queue.specs.Fronts.{popped, poppedFrom, popped-none}
@@ -73,12 +74,10 @@ blocked-room none room f e = refl
 blocked-room (some c) room f e = sym e
 
 pub blocked-none : (h : Option Chunk) (room : ℕ) (f : List Chunk) → found h ≡ Found.Nothing → false ≡ blocked h room f
-blocked-none none room f e = refl
-blocked-none (some c) room f e = let z : _≡_ {A = ℕ} 0 1 = cc in absurd (omega arith)
+blocked-none h room f e = sym (ap (λ (o : Option Chunk). blocked o room f) (found-none h e))
 
 pub blocked-one : (h : Option Chunk) (c : Chunk) (room : ℕ) (f : List Chunk) → leb room (suc (length f)) ≡ true → found h ≡ Found.One c → true ≡ blocked h room f
-blocked-one none c room f full e = let z : _≡_ {A = ℕ} 0 1 = cc in absurd (omega arith)
-blocked-one (some d) c room f full e = sym full
+blocked-one h c room f full e = sym (ap (λ (o : Option Chunk). blocked o room f) (found-some h c e) ∙ full)
 
 -- ---- the head's ring with lifetimes started
 
@@ -141,16 +140,12 @@ module _ (room : Room) (now : ℕ) (s : Sender) where
       pub send-full : blocked (head (s .pending)) n (s .flight .entries) ≡ true → same (Sent.Refused flightFull) s ≡ leanSend room now s
       send-full e = opened (full-by (headLane (begun .pending)) (ahead (begun .pending)) (still-blocked ∙ e))
 
-      none-of : (x : List Chunk) → found (first x) ≡ Found.Nothing → x ≡ []
-      none-of [] e = refl
-      none-of (c ∷ x) e = let z : _≡_ {A = ℕ} 0 1 = cc in absurd (omega arith)
-
       -- `x` has lifetimes started, and from `y` the head is gone
       module _ {x y : Sender} (e : x ≡ begun) (t : y ≡ withPending (popped (x .pending)) x) where
         pub send-none : found (head (x .pending)) ≡ Found.Nothing → record { after = y; says = Sent.Nothing } ≡ leanSend room now s
         send-none q =
             ap (λ (z : Sender). record { after = z; says = Sent.Nothing }) (t ∙ ap (λ (p : Pending). withPending p x) (sym (popped-none (x .pending) q)) ∙ e)
-            ∙ opened (sym (ap (λ (l : List Chunk). sending (headLane (begun .pending)) l room now s begun) (none-of (ahead (begun .pending)) (sym (ap (λ (z : Sender). found (head (z .pending))) e) ∙ q))))
+            ∙ opened (sym (ap (λ (l : List Chunk). sending (headLane (begun .pending)) l room now s begun) (first-none (ahead (begun .pending)) (sym (ap (λ (z : Sender). found (head (z .pending))) e) ∙ q))))
 
         -- the sender behind it, of which this is pending
         abbrev sentWith : Pending → Chunk → Out Sent

@@ -15,20 +15,14 @@ use Rattle.model.specs.State.{Flight}
 use Rattle.model.specs.Rings.{bytes}
 use Rattle.model.specs.Flight.{found, acknowledged}
 use Rattle.rows.specs.Adjusts.{adjust-set}
-use Rattle.rows.specs.Turns.{nil-of}
 use Rattle.chunk_slot.specs.Chunks.{blankChunk}
-use Rattle.ring.specs.declared.Ring.{Ring}
-use Rattle.ring.specs.Held.{held, length-held}
+use Rattle.ring.specs.Held.{first-none}
 use Rattle.payload_queue.specs.declared.Pending.{Pending}
 use Rattle.payload_queue.specs.Queue.{heldIn, Pop, poppedOf, isAwaited, overdueEntry}
 
 -- other entries from the same oldest TSN on
 pub entries-are : (o : ℕ) {l m : List Chunk} → l ≡ m → _≡_ {A = Flight} (record { oldest = o; entries = l }) (record { oldest = o; entries = m })
 entries-are o e = ap (λ (l : List Chunk). record { oldest = o; entries = l }) e
-
--- a ring of length 0 holds nothing
-pub held-none : (r : Ring) (ws : List ℕ) → r .len ≡ 0 → held r ws ≡ []
-held-none r ws e = nil-of (held r ws) (omega (arith, length-held r ws))
 
 -- ---- acknowledging: the entry is read, marked and put back
 
@@ -43,14 +37,6 @@ held-at zero (c ∷ l) = refl
 held-at (suc i) (c ∷ l) = held-at i l
 
 -- ---- pop: another TSN, an empty flight, the oldest
-
-first-none : (l : List Chunk) → found (first l) ≡ Found.Nothing → l ≡ []
-first-none [] e = refl
-first-none (x ∷ l) e = let z : _≡_ {A = ℕ} 0 1 = cc in absurd (omega arith)
-
-pub first-one : (l : List Chunk) (c : Chunk) → found (first l) ≡ Found.One c → l ≡ c ∷ drop 1 l
-first-one [] c e = let z : _≡_ {A = ℕ} 0 1 = cc in absurd (omega arith)
-first-one (x ∷ l) c e = let q : x ≡ c = cc in ap (λ (y : Chunk). y ∷ l) q
 
 -- what is left holds so much less
 pub bytes-rest : (l : List Chunk) {c : Chunk} {m : List Chunk} → l ≡ c ∷ drop 1 l → m ≡ drop 1 l → bytes m + c .length ≡ bytes l

@@ -16,7 +16,8 @@ use Rattle.model.specs.Lists.{if_then_else_, adjust}
 use Rattle.model.specs.State.{Flight, place}
 use Rattle.model.specs.Rings.{bytes, tsnsOf}
 use Rattle.model.specs.Flight.{acknowledged}
-use Rattle.ring.specs.Held.{held, pushed}
+use Rattle.rows.specs.Joins.{pushed}
+use Rattle.ring.specs.Held.{held}
 use Rattle.payload_queue.specs.declared.PayloadQueue.{PayloadQueue}
 use Rattle.payload_queue.specs.declared.Popped.{Popped}
 use Rattle.payload_queue.specs.declared.Pending.{Pending}
@@ -46,6 +47,16 @@ abbrev pub heldIn : Option Chunk → ℕ
 heldIn none = 0
 heldIn (some c) = c .length
 
+-- ---- what a call promises, of every queue `q` and every cells `ws`; `q′` and `ws′` are those behind it. The counter stays the sum
+
+-- the flight is changed
+abbrev pub Becomes : (Flight → Flight) → PayloadQueue → List ℕ → PayloadQueue → List ℕ → Type 0
+Becomes change q ws q′ ws′ = (flightOf q′ ws′ ≡ change (flightOf q ws)) × (Counted q ws → Counted q′ ws′)
+
+-- and bytes of it are told
+abbrev pub Tells : (Flight → Flight) → (Flight → ℕ) → PayloadQueue → List ℕ → PayloadQueue → List ℕ → (bytes : ℕ) → Type 0
+Tells change said q ws q′ ws′ n = (flightOf q′ ws′ ≡ change (flightOf q ws)) × (n ≡ said (flightOf q ws)) × (Counted q ws → Counted q′ ws′)
+
 -- ---- pop: what it leaves, and what it answers
 
 pub record Pop : Type 0 where
@@ -64,6 +75,10 @@ poppedOf (c ∷ l) t f =
 
 abbrev pub popped : (tsn : ℕ) → Flight → Pop
 popped t f = poppedOf (f .entries) t f
+
+-- only the oldest is taken, and the counter stays the sum
+abbrev pub Pops : (tsn : ℕ) → PayloadQueue → List ℕ → Popped → Type 0
+Pops t q ws r = (outcome r ws ≡ popped t (flightOf q ws)) × (Counted q ws → Counted (r .queue) ws)
 
 -- ---- expired: not abandoned, at or past its deadline, and unacknowledged or of the message that is still pending
 
@@ -85,3 +100,7 @@ listed ts out = if ltb (length out) (length ts) then Listed.Refused listShort el
 -- the TSNs stand at the front where they fit, and the rest is as it was
 abbrev pub written : (ts out : List ℕ) → List ℕ
 written ts out = if ltb (length out) (length ts) then out else ts ++ drop (length ts) out
+
+-- a list of TSNs is told: `out` is lent, and `out′` are its cells then
+abbrev pub Lists : (ts out out′ : List ℕ) → Listed → Type 0
+Lists ts out out′ answer = (answer ≡ listed ts out) × (out′ ≡ written ts out)

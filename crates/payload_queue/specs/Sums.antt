@@ -16,8 +16,9 @@ use Rattle.rows.specs.Walks.{keep-total}
 use Rattle.chunk_slot.specs.Chunks.{blankChunk}
 use Rattle.chunk_slot.specs.Changes.{heldOf}
 use Rattle.ring.specs.declared.Ring.{Ring}
-use Rattle.ring.specs.Held.{held, pushed}
-use Rattle.ring.specs.Sums.{bytes-append, held-bytes}
+use Rattle.rows.specs.Joins.{pushed}
+use Rattle.ring.specs.Held.{held}
+use Rattle.ring.specs.Sums.{bytes-append, bytes-map, held-bytes}
 use Rattle.payload_queue.specs.declared.PayloadQueue.{PayloadQueue}
 use Rattle.payload_queue.specs.Queue.{Counted}
 
@@ -41,8 +42,7 @@ bytes-acked zero (c ∷ l) = omega arith
 bytes-acked (suc i) (c ∷ l) = omega (arith, bytes-acked i l)
 
 pub bytes-marked : (l : List Chunk) → bytes (map toRetransmit l) ≡ bytes l
-bytes-marked [] = refl
-bytes-marked (c ∷ l) = ap (λ (n : ℕ). c .length + n) (bytes-marked l)
+bytes-marked l = bytes-map toRetransmit (λ (c : Chunk). refl) l
 
 pub bytes-given : (number : ℕ) (l : List Chunk) → bytes (map (givenUp number) l) + bytes (keep (isOf number) l) ≡ bytes l
 bytes-given number l = ap (λ (n : ℕ). bytes (map (givenUp number) l) + n) (keep-total (isOf number) (λ (c : Chunk). c .length) l) ∙ each l

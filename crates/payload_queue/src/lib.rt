@@ -15,7 +15,7 @@ ghost use Rattle.limits.specs.Limits.{tsns};
 ghost use Rattle.model.specs.State.{inFlight};
 ghost use Rattle.model.specs.Flight.{found};
 ghost use Rattle.cells.specs.Slots.{roomOf};
-ghost use Rattle.payload_queue.specs.Queue.{flightOf, Counted, filed, popped, outcome};
+ghost use Rattle.payload_queue.specs.Queue.{Becomes, Pops, flightOf, Counted, filed};
 
 #[repr(C)]
 pub struct PayloadQueue {
@@ -49,7 +49,7 @@ pub fn new(oldest: u32) -> PayloadQueue
 
 // Files a chunk behind the others, where there is room: it takes the next TSN.
 pub fn push(q: PayloadQueue, cells: &mut [u64], chunk: Chunk) -> PayloadQueue
-    ensures { λ r. ⌜ (flightOf r (now (cells .exit)) ≡ filed (roomOf (now (cells .entry))) chunk (flightOf q (now (cells .entry)))) × (Counted q (now (cells .entry)) → Counted r (now (cells .exit))) ⌝ }
+    ensures { λ r. ⌜ Becomes (filed (roomOf (now (cells .entry))) chunk) q (now (cells .entry)) r (now (cells .exit)) ⌝ }
 {
     let longer = ring::push(q.ring, cells, chunk);
     let ring = longer.ring;
@@ -84,7 +84,7 @@ pub fn get(q: PayloadQueue, cells: &[u64], tsn: u32) -> Found
 
 // Takes the oldest, if it has this TSN.
 pub fn pop(q: PayloadQueue, cells: &[u64], tsn: u32) -> Popped
-    ensures { λ r. ⌜ (outcome r (now (cells .entry)) ≡ popped tsn (flightOf q (now (cells .entry)))) × (Counted q (now (cells .entry)) → Counted (r .queue) (now (cells .entry))) ⌝ }
+    ensures { λ r. ⌜ Pops tsn q (now (cells .entry)) r ⌝ }
 {
     if tsn != q.oldest {
         return Popped {

@@ -9,7 +9,7 @@ ghost use Rattle.model.specs.State.{inFlight, isOf};
 ghost use Rattle.model.specs.Rings.{bytes, givenUp};
 ghost use Rattle.model.specs.Flight.{acknowledged, toRetransmit};
 ghost use Rattle.ring.specs.Held.{held};
-ghost use Rattle.payload_queue.specs.Queue.{flightOf, Counted, changed, acked, heldIn};
+ghost use Rattle.payload_queue.specs.Queue.{Becomes, Tells, changed, acked, heldIn};
 
 // The bytes that the entry held.
 pub struct Acked {
@@ -35,7 +35,7 @@ fn acknowledge(chunk: Chunk) -> Chunk
 
 // The entry of an unknown TSN is blank, holds nothing, and is put nowhere.
 pub fn mark_as_acked(q: PayloadQueue, cells: &mut [u64], tsn: u32) -> Acked
-    ensures { λ r. ⌜ (flightOf (r .queue) (now (cells .exit)) ≡ acked tsn (flightOf q (now (cells .entry)))) × (r .bytes ≡ heldIn (inFlight tsn (flightOf q (now (cells .entry))))) × (Counted q (now (cells .entry)) → Counted (r .queue) (now (cells .exit))) ⌝ }
+    ensures { λ r. ⌜ Tells (acked tsn) (λ f. heldIn (inFlight tsn f)) q (now (cells .entry)) (r .queue) (now (cells .exit)) (r .bytes) ⌝ }
 {
     let ring = q.ring;
     let i = super::place(q.oldest, tsn);
@@ -72,7 +72,7 @@ fn give_up_all(ring: Ring, cells: &mut [u64], number: u64) -> u64
 
 // Gives up every entry of a message, and answers the bytes that they held.
 pub fn abandon_message(q: PayloadQueue, cells: &mut [u64], number: u64) -> Freed
-    ensures { λ r. ⌜ (flightOf (r .queue) (now (cells .exit)) ≡ changed (map (givenUp number)) (flightOf q (now (cells .entry)))) × (r .bytes ≡ bytes (keep (isOf number) (flightOf q (now (cells .entry)) .entries))) × (Counted q (now (cells .entry)) → Counted (r .queue) (now (cells .exit))) ⌝ }
+    ensures { λ r. ⌜ Tells (changed (map (givenUp number))) (λ f. bytes (keep (isOf number) (f .entries))) q (now (cells .entry)) (r .queue) (now (cells .exit)) (r .bytes) ⌝ }
 {
     let ring = q.ring;
     let released = give_up_all(ring, cells, number);
@@ -89,7 +89,7 @@ pub fn abandon_message(q: PayloadQueue, cells: &mut [u64], number: u64) -> Freed
 
 // Every entry that is neither acknowledged nor abandoned is to be retransmitted. The queue's numbers stay.
 pub fn mark_all_to_retransmit(q: PayloadQueue, cells: &mut [u64])
-    ensures { λ _. ⌜ (flightOf q (now (cells .exit)) ≡ changed (map toRetransmit) (flightOf q (now (cells .entry)))) × (Counted q (now (cells .entry)) → Counted q (now (cells .exit))) ⌝ }
+    ensures { λ _. ⌜ Becomes (changed (map toRetransmit)) q (now (cells .entry)) q (now (cells .exit)) ⌝ }
 {
     let ring = q.ring;
     let n = ring::count(ring, cells);

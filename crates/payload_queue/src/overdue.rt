@@ -12,7 +12,7 @@ ghost use lib.ListN.{length, set};
 ghost use Rattle.model.specs.Lists.{if_then_else_};
 ghost use Rattle.rows.specs.Walks.{count};
 ghost use Rattle.ring.specs.Held.{held};
-ghost use Rattle.payload_queue.specs.Queue.{flightOf, isAwaited, overdueEntry, overdueTsns, listed, written};
+ghost use Rattle.payload_queue.specs.Queue.{Lists, flightOf, isAwaited, overdueEntry, overdueTsns};
 
 fn is_awaited(pending: Pending, number: u64) -> bool
     ensures { λ r. ⌜ r ≡ isAwaited pending number ⌝ }
@@ -82,7 +82,7 @@ pub fn expired(
     pending: Pending,
     out: &mut [u32],
 ) -> Listed
-    ensures { λ r. ⌜ (r ≡ listed (overdueTsns clock pending (flightOf q (now (cells .entry)))) (now (out .entry))) × (now (out .exit) ≡ written (overdueTsns clock pending (flightOf q (now (cells .entry)))) (now (out .entry))) ⌝ }
+    ensures { λ r. ⌜ Lists (overdueTsns clock pending (flightOf q (now (cells .entry)))) (now (out .entry)) (now (out .exit)) r ⌝ }
 {
     let ring = q.ring;
     let needed = count_overdue(ring, cells, clock, pending);

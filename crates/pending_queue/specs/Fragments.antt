@@ -26,6 +26,10 @@ fits room m o n l = leb o offsetMax && leb (length l + pieces n m) room
 abbrev pub added : (room : ℕ) → Message → (maximum offset length : ℕ) → List Chunk → List Chunk
 added room x m o n l = if fits room m o n l then l ++ cut x true (pieces n m) m o n else l
 
+-- they join, all or none: the ring was `l` and is `k` then; the bytes that they bring and whether there was room are told
+abbrev pub Adds : (room : ℕ) → Message → (maximum offset length : ℕ) → (l k : List Chunk) → (bytes : ℕ) → Bool → Type 0
+Adds room x m o n l k more done = (k ≡ added room x m o n l) × (done ≡ fits room m o n l) × (bytes k ≡ bytes l + more)
+
 -- whether a message's fragments are added, where each ring has this room
 abbrev pub fitsIn : (room : ℕ) → Message → (maximum offset length : ℕ) → Pending → Bool
 fitsIn room x m off n p = fits room m off n (at (laneOf (x .unordered)) p)

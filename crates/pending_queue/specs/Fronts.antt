@@ -17,7 +17,9 @@ use Rattle.model.specs.Lists.{if_then_else_, first}
 use Rattle.model.specs.State.{Pending, at, laneOf, withRing}
 use Rattle.model.specs.Rings.{laneAhead, headLane, head, underWayAfter, bytes}
 use Rattle.model.specs.Flight.{found}
-use Rattle.pending_queue.specs.Queue.{underWayOf, bytesIn}
+use Rattle.ring.specs.Held.{first-none, first-one}
+use Rattle.pending_queue.specs.declared.PendingQueue.{PendingQueue}
+use Rattle.pending_queue.specs.Queue.{underWayOf, bytesIn, pendingIn, Counted}
 
 -- the front of a ring, which is the list, is taken
 abbrev pub poppedFrom : Lane → List Chunk → Pending → Pending
@@ -27,6 +29,11 @@ poppedFrom l (c ∷ x) p = withRing l (underWayAfter l c) x p
 -- the head is taken, if there is one; a non-ending fragment puts its message under way, an ending one ends that
 abbrev pub popped : Pending → Pending
 popped p = poppedFrom (headLane p) (at (headLane p) p) p
+
+-- that chunk is told; the counter stays the sum
+abbrev pub Pops : PendingQueue → (unordered ordered : List ℕ) → PendingQueue → Found → Type 0
+Pops q u o q′ front =
+    (pendingIn q′ u o ≡ popped (pendingIn q u o)) × (front ≡ found (head (pendingIn q u o))) × (Counted q u o → Counted q′ u o)
 
 -- ---- which ring it is in, where nothing is under way
 
@@ -48,15 +55,13 @@ head-at p e q = q ∙ ap (λ (l : Lane). found (first (at l p))) e
 -- ---- the two ways of taking it
 
 none-from : (p : Pending) (l : Lane) (x : List Chunk) → found (first x) ≡ Found.Nothing → p ≡ poppedFrom l x p
-none-from p l [] e = refl
-none-from p l (c ∷ x) e = let z : _≡_ {A = ℕ} 0 1 = cc in absurd (omega arith)
+none-from p l x e = sym (ap (λ (y : List Chunk). poppedFrom l y p) (first-none x e))
 
 pub popped-none : (p : Pending) → found (head p) ≡ Found.Nothing → p ≡ popped p
 popped-none p e = none-from p (headLane p) (at (headLane p) p) e
 
 one-from : (p : Pending) (l : Lane) (x : List Chunk) (c : Chunk) → found (first x) ≡ Found.One c → withRing l (underWayAfter l c) (drop 1 x) p ≡ poppedFrom l x p
-one-from p l [] c e = let z : _≡_ {A = ℕ} 0 1 = cc in absurd (omega arith)
-one-from p l (d ∷ x) c e = let q : c ≡ d = cc in ap (λ (y : Chunk). withRing l (underWayAfter l y) x p) q
+one-from p l x c e = sym (ap (λ (y : List Chunk). poppedFrom l y p) (first-one x c e))
 
 -- the flags behind a chunk
 flags-after : (e b : Bool) → underWayOf (not e) b ≡ (if e then Idle else underWayOf true b)
@@ -72,17 +77,12 @@ popped-one p b c t e q r =
     ∙ one-from p (headLane p) (at (headLane p) p) c q
 
 -- the bytes that are left
-left-from : (p : Pending) (l : Lane) (c : Chunk) → found (first (at l p)) ≡ Found.One c → bytesIn (poppedFrom l (at l p) p) + c .length ≡ bytesIn p
-left-from p Unordered c e = by (p .unordered) e
+left-from : (p : Pending) (l : Lane) (x : List Chunk) (c : Chunk) → x ≡ c ∷ drop 1 x → x ≡ at l p → bytesIn (poppedFrom l x p) + c .length ≡ bytesIn p
+left-from p l x c e a = ap (λ (y : List Chunk). bytesIn (poppedFrom l y p) + c .length) e ∙ by l a
   where
-    by : (x : List Chunk) → found (first x) ≡ Found.One c → bytesIn (poppedFrom Unordered x p) + c .length ≡ bytes x + bytes (p .ordered)
-    by [] e = let z : _≡_ {A = ℕ} 0 1 = cc in absurd (omega arith)
-    by (d ∷ x) e = let q : c ≡ d = cc in omega (arith, ap (λ (y : Chunk). y .length) q)
-left-from p Ordered c e = by (p .ordered) e
-  where
-    by : (x : List Chunk) → found (first x) ≡ Found.One c → bytesIn (poppedFrom Ordered x p) + c .length ≡ bytes (p .unordered) + bytes x
-    by [] e = let z : _≡_ {A = ℕ} 0 1 = cc in absurd (omega arith)
-    by (d ∷ x) e = let q : c ≡ d = cc in omega (arith, ap (λ (y : Chunk). y .length) q)
+    by : (m : Lane) → x ≡ at m p → bytesIn (withRing m (underWayAfter m c) (drop 1 x) p) + c .length ≡ bytesIn p
+    by Unordered a = omega (arith, ap bytes e, ap bytes a)
+    by Ordered a = omega (arith, ap bytes e, ap bytes a)
 
 pub popped-bytes : (p : Pending) (c : Chunk) → found (head p) ≡ Found.One c → bytesIn (popped p) + c .length ≡ bytesIn p
-popped-bytes p c e = left-from p (headLane p) c e
+popped-bytes p c e = left-from p (headLane p) (at (headLane p) p) c (first-one (at (headLane p) p) c e) refl

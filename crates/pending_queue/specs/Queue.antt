@@ -1,33 +1,22 @@
 -- What a queue of pending chunks means, and the kept sum of its bytes.
 use mathlib.Core.Path.{_≡_, refl, ap, _∙_}
-use mathlib.Core.Bool.{Bool, true, false, not, _||_, or-assoc}
+use mathlib.Core.Bool.{Bool, true, false, _||_, or-assoc}
 use mathlib.Core.List.{List, [], _∷_, _++_, map}
 use Prim.Native.Nat.{ℕ, _+_, _%_, _^_, _<_}
 use native.Mathlib.Omega.{arith}
 use lib.ListN.{length}
 use lib.Dec.{eqb}
-use borrow.Author.Tests.{eq-eqb, ne-eqb}
+use Rattle.limits.specs.Flags.{isSet}
 use Rattle.model.specs.declared.Chunk.{Chunk}
 use Rattle.model.specs.declared.UnderWay.{UnderWay}
 use Rattle.model.specs.declared.UnderWay.the-variants.{Idle, Sending}
 use Rattle.model.specs.State.{Pending, laneOf}
 use Rattle.model.specs.Lists.{if_then_else_, some-of}
 use Rattle.model.specs.Rings.{withMessage, renewed, ssnBefore, lowered, bytes}
-use Rattle.rows.specs.Turns.{nil-of}
 use Rattle.ring.specs.declared.Ring.{Ring}
-use Rattle.ring.specs.Held.{held, length-held}
+use Rattle.ring.specs.Held.{held}
 use Rattle.ring.specs.Sums.{bytes-map, held-bytes}
 use Rattle.pending_queue.specs.declared.PendingQueue.{PendingQueue}
-
--- any byte but 0 is yes
-abbrev pub isSet : ℕ → Bool
-isSet n = not (eqb n 0)
-
-pub is-set : {n : ℕ} → (n ≡ 0 → ⊥) → isSet n ≡ true
-is-set {n} h = ap not (ne-eqb n 0 h)
-
-pub not-set : {n : ℕ} → n ≡ 0 → isSet n ≡ false
-not-set {n} h = ap not (eq-eqb n 0 h)
 
 -- the two flags are the model's `underWay`; the second means nothing without the first
 abbrev pub underWayOf : (selected unorderedSelected : Bool) → UnderWay
@@ -54,10 +43,6 @@ Counted q u o = q .bytes ≡ bytesIn (pendingIn q u o)
 -- what is pending is the same if its parts are
 pub both : {p q : Pending} → p .underWay ≡ q .underWay → p .unordered ≡ q .unordered → p .ordered ≡ q .ordered → p ≡ q
 both w u o = λ i. record { underWay = w i; unordered = u i; ordered = o i }
-
--- a ring of no chunks
-pub held-none : (r : Ring) (ws : List ℕ) → r .len ≡ 0 → held r ws ≡ []
-held-none r ws e = nil-of (held r ws) (omega (arith, length-held r ws))
 
 -- a search in one ring, and then in the other; `r` is what the first found
 pub some-in : (p : Chunk → Bool) (l m : List Chunk) {r : Bool} → r ≡ some-of p l → (r || some-of p m) ≡ some-of p (l ++ m)

@@ -2,7 +2,7 @@
 use mathlib.Core.Path.{_≡_, refl, sym, ap, ap₂, _∙_}
 use mathlib.Core.Bool.{Bool, true, false, not}
 use mathlib.Core.Option.{Option, none, some}
-use mathlib.Core.List.{List, [], _∷_, _++_, tail-eq-of-cons-eq}
+use mathlib.Core.List.{List, [], _∷_, _++_, map, tail-eq-of-cons-eq}
 use Prim.Native.Nat.{ℕ, suc, _+_, _≤_}
 use native.Mathlib.Omega.{arith}
 use lib.ListN.{length}
@@ -15,12 +15,14 @@ use Rattle.model.specs.declared.UnderWay.{UnderWay}
 use Rattle.model.specs.declared.UnderWay.the-variants.{Idle}
 use Rattle.model.specs.Lists.{if_then_else_, keep, last}
 use Rattle.model.specs.State.{Pending, at, isOf}
-use Rattle.model.specs.Rings.{head, pendingOf, ended, without, bytes}
+use Rattle.model.specs.Rings.{head, pendingOf, ended, without, lowered, bytes}
 use Rattle.model.specs.Flight.{found}
 use Rattle.demands.specs.States.{dropRun}
 use Rattle.rows.specs.Walks.{takeWhile, dropWhile, take-hit, take-miss, drop-hit, drop-miss}
+use Rattle.ring.specs.Held.{held, found-none, found-some}
 use Rattle.ring.specs.Sums.{bytes-append}
-use Rattle.pending_queue.specs.Queue.{bytesIn}
+use Rattle.pending_queue.specs.declared.PendingQueue.{PendingQueue}
+use Rattle.pending_queue.specs.Queue.{bytesIn, pendingIn, Counted}
 
 -- the leading run of a message in each ring
 abbrev pub runs : (number : ℕ) → Pending → List Chunk
@@ -30,6 +32,20 @@ runs n p = takeWhile (isOf n) (p .ordered) ++ takeWhile (isOf n) (p .unordered)
 abbrev pub withoutRuns : (number : ℕ) → Pending → Pending
 withoutRuns n p =
     record { underWay = ended n (head p) (p .underWay); unordered = dropRun n (p .unordered); ordered = dropRun n (p .ordered) }
+
+-- the bytes that they held and the last of them are told; the counter stays the sum
+abbrev pub Removes : (number : ℕ) → PendingQueue → (unordered ordered : List ℕ) → PendingQueue → (held : ℕ) → Found → Type 0
+Removes n q u o q′ sum end =
+    (pendingIn q′ u o ≡ withoutRuns n (pendingIn q u o)) × (sum ≡ bytes (runs n (pendingIn q u o))) × (end ≡ found (last (runs n (pendingIn q u o)))) × (Counted q u o → Counted q′ u o)
+
+-- of one ring: `l` before and `m` then. The bytes are below 2 ^ 62, so those of two rings fit
+abbrev pub LeadingRun : (number : ℕ) → (l m : List Chunk) → (held : ℕ) → Found → Type 0
+LeadingRun n l m sum end = (m ≡ dropRun n l) × (sum ≡ bytes (takeWhile (isOf n) l)) × (end ≡ found (last (takeWhile (isOf n) l))) × (sum ≤ 4611686017353646080)
+
+-- the SSNs of a stream drop by 1 in the ordered ring; the counter stays the sum
+abbrev pub ClosesGap : (stream : ℕ) → PendingQueue → (ordered ordered′ : List ℕ) → Type 0
+ClosesGap id q o o′ =
+    (held (q .ordered) o′ ≡ map (lowered id) (held (q .ordered) o)) × ((unordered : List ℕ) → Counted q unordered o → Counted q unordered o′)
 
 -- ---- where a message's chunks are a leading run of each ring, that is the model's removal of all of them
 
@@ -73,12 +89,10 @@ module _ (n : ℕ) where
 
 module _ (n : ℕ) (w : UnderWay) where
   pub ended-none : (h : Option Chunk) → found h ≡ Found.Nothing → w ≡ ended n h w
-  ended-none none e = refl
-  ended-none (some c) e = let z : _≡_ {A = ℕ} 0 1 = cc in absurd (omega arith)
+  ended-none h e = sym (ap (λ (o : Option Chunk). ended n o w) (found-none h e))
 
   ended-by : (h : Option Chunk) (c : Chunk) → found h ≡ Found.One c → (if isOf n c then Idle else w) ≡ ended n h w
-  ended-by none c e = let z : _≡_ {A = ℕ} 0 1 = cc in absurd (omega arith)
-  ended-by (some d) c e = let q : c ≡ d = cc in ap (λ (y : Chunk). if isOf n y then Idle else w) q
+  ended-by h c e = sym (ap (λ (o : Option Chunk). ended n o w) (found-some h c e))
 
   pub ended-one : (h : Option Chunk) (c : Chunk) → found h ≡ Found.One c → c .message .number ≡ n → Idle ≡ ended n h w
   ended-one h c e q = sym (ap (λ (b : Bool). if b then Idle else w) (eq-eqb (c .message .number) n q)) ∙ ended-by h c e

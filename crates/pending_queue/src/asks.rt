@@ -1,12 +1,9 @@
 // What is asked of the two rings of pending chunks: nothing changes.
 use super::PendingQueue;
-use ring::Ring;
 ghost use mathlib.Core.Path.{_≡_};
 ghost use mathlib.Core.List.{_++_};
 ghost use Prim.Native.Nat.{_+_};
 ghost use lib.ListN.{length};
-ghost use Rattle.model.specs.Lists.{some-of};
-ghost use Rattle.model.specs.State.{isOf};
 ghost use Rattle.model.specs.Flight.{hasStream};
 ghost use Rattle.ring.specs.Held.{held};
 
@@ -21,34 +18,6 @@ pub fn bytes(queue: PendingQueue) -> u64
     ensures { λ r. ⌜ r ≡ queue .bytes ⌝ }
 {
     queue.bytes
-}
-
-fn has_message(ring: Ring, cells: &[u64], number: u64) -> bool
-    ensures { λ r. ⌜ r ≡ some-of (isOf number) (held ring (now (cells .entry))) ⌝ }
-{
-    let n = ring::count(ring, cells);
-    let mut i = 0;
-    while i < n {
-        if ring::parts::nth_number(ring, cells, i) == number {
-            return true;
-        }
-        i += 1;
-    }
-    false
-}
-
-pub fn contains_message(
-    queue: PendingQueue,
-    unordered: &[u64],
-    ordered: &[u64],
-    number: u64,
-) -> bool
-    ensures { λ r. ⌜ r ≡ some-of (isOf number) (held (queue .unordered) (now (unordered .entry)) ++ held (queue .ordered) (now (ordered .entry))) ⌝ }
-{
-    if has_message(queue.unordered, unordered, number) {
-        return true;
-    }
-    has_message(queue.ordered, ordered, number)
 }
 
 pub fn contains_stream(queue: PendingQueue, unordered: &[u64], ordered: &[u64], stream: u16) -> bool

@@ -8,10 +8,9 @@ ghost use mathlib.Core.Bool.{true};
 ghost use mathlib.Core.List.{_++_};
 ghost use Prim.Native.Nat.{_+_, _-_, _≤_};
 ghost use Rattle.model.specs.Messages.{pieces, piece, cut};
-ghost use Rattle.model.specs.Rings.{bytes};
 ghost use Rattle.cells.specs.Slots.{roomOf};
 ghost use Rattle.ring.specs.Held.{held};
-ghost use Rattle.pending_queue.specs.Fragments.{sizeOf, bytesOf, fits, added};
+ghost use Rattle.pending_queue.specs.Fragments.{Adds, sizeOf, bytesOf, fits};
 
 // The ring with a message's fragments, the bytes that they bring, and whether there was room.
 pub struct Added {
@@ -123,7 +122,7 @@ pub fn push_fragments(
     offset: u64,
     length: u32,
 ) -> Added
-    ensures { λ r. ⌜ (held (r .ring) (now (cells .exit)) ≡ added (roomOf (now (cells .entry))) message maximum offset length (held ring (now (cells .entry)))) × (r .done ≡ fits (roomOf (now (cells .entry))) maximum offset length (held ring (now (cells .entry)))) × (bytes (held (r .ring) (now (cells .exit))) ≡ bytes (held ring (now (cells .entry))) + r .bytes) ⌝ }
+    ensures { λ r. ⌜ Adds (roomOf (now (cells .entry))) message maximum offset length (held ring (now (cells .entry))) (held (r .ring) (now (cells .exit))) (r .bytes) (r .done) ⌝ }
 {
     if !fitting(ring, cells, maximum, offset, length) {
         return Added {

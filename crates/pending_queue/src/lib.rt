@@ -12,13 +12,14 @@ ghost use mathlib.Core.Path.{_≡_};
 ghost use mathlib.Core.List.{List};
 ghost use Prim.Native.Nat.{ℕ, min};
 ghost use Rattle.limits.specs.Limits.{clockMax};
+ghost use Rattle.limits.specs.Flags.{isSet};
 ghost use Rattle.model.specs.State.{laneOf};
 ghost use Rattle.model.specs.Rings.{laneAhead, head};
 ghost use Rattle.model.specs.Flight.{found};
 ghost use Rattle.ring.specs.Held.{held};
-ghost use Rattle.pending_queue.specs.Queue.{isSet, underWayOf, noPending, pendingIn, Counted};
+ghost use Rattle.pending_queue.specs.Queue.{underWayOf, noPending, pendingIn, Counted};
 ghost use Rattle.pending_queue.specs.Adding.{withAdded};
-ghost use Rattle.pending_queue.specs.Fronts.{popped};
+ghost use Rattle.pending_queue.specs.Fronts.{Pops};
 ghost use Rattle.pending_queue.specs.Lifetimes.{startedEnd};
 
 // `selected` says that a message has been sent in part, and `unordered_is_selected` in which ring its rest is: any byte but 0 is yes.
@@ -83,7 +84,7 @@ fn flag(b: bool) -> u8
 
 // Takes that chunk. One that does not end its message puts this under way.
 pub fn pop(queue: PendingQueue, unordered: &[u64], ordered: &[u64]) -> Popped
-    ensures { λ r. ⌜ (pendingIn (r .queue) (now (unordered .entry)) (now (ordered .entry)) ≡ popped (pendingIn queue (now (unordered .entry)) (now (ordered .entry)))) × (r .front ≡ found (head (pendingIn queue (now (unordered .entry)) (now (ordered .entry))))) × (Counted queue (now (unordered .entry)) (now (ordered .entry)) → Counted (r .queue) (now (unordered .entry)) (now (ordered .entry))) ⌝ }
+    ensures { λ r. ⌜ Pops queue (now (unordered .entry)) (now (ordered .entry)) (r .queue) (r .front) ⌝ }
 {
     let front = peek(queue, unordered, ordered);
     let Found::One(chunk) = front else {

@@ -3,17 +3,10 @@ use super::PendingQueue;
 use model::Found;
 use ring::Ring;
 ghost use mathlib.Core.Path.{_≡_};
-ghost use mathlib.Core.List.{List, map};
-ghost use Prim.Native.Nat.{ℕ, _≤_};
-ghost use Rattle.model.specs.Lists.{last};
-ghost use Rattle.model.specs.State.{isOf};
-ghost use Rattle.model.specs.Rings.{head, lowered, ended, bytes};
-ghost use Rattle.model.specs.Flight.{found};
-ghost use Rattle.demands.specs.States.{dropRun};
-ghost use Rattle.rows.specs.Walks.{takeWhile};
+ghost use Rattle.limits.specs.Flags.{isSet};
 ghost use Rattle.ring.specs.Held.{held};
-ghost use Rattle.pending_queue.specs.Queue.{isSet, underWayOf, pendingIn, Counted};
-ghost use Rattle.pending_queue.specs.Runs.{laterOf, runs, withoutRuns};
+ghost use Rattle.pending_queue.specs.Queue.{underWayOf, pendingIn};
+ghost use Rattle.pending_queue.specs.Runs.{Removes, LeadingRun, ClosesGap, laterOf, withoutRuns};
 
 // `bytes` is what the removed chunks held, and `last` the last of them.
 pub struct Removed {
@@ -30,7 +23,7 @@ struct Run {
 
 // The leading run of a message leaves a ring.
 fn remove_run(ring: Ring, cells: &[u64], number: u64) -> Run
-    ensures { λ r. ⌜ (held (r .ring) (now (cells .entry)) ≡ dropRun number (held ring (now (cells .entry)))) × (r .bytes ≡ bytes (takeWhile (isOf number) (held ring (now (cells .entry))))) × (r .last ≡ found (last (takeWhile (isOf number) (held ring (now (cells .entry)))))) × (r .bytes ≤ 4611686017353646080) ⌝ }
+    ensures { λ r. ⌜ LeadingRun number (held ring (now (cells .entry))) (held (r .ring) (now (cells .entry))) (r .bytes) (r .last) ⌝ }
 {
     let mut rest = ring;
     let mut n = ring::count(ring, cells);
@@ -69,7 +62,7 @@ fn later(first: Found, second: Found) -> Found
 
 // Whether a message is still under way without this one.
 fn still_selected(queue: PendingQueue, unordered: &[u64], ordered: &[u64], number: u64) -> u8
-    ensures { λ r. ⌜ underWayOf (isSet r) (isSet (queue .«unordered_is_selected»)) ≡ ended number (head (pendingIn queue (now (unordered .entry)) (now (ordered .entry)))) (underWayOf (isSet (queue .selected)) (isSet (queue .«unordered_is_selected»))) ⌝ }
+    ensures { λ r. ⌜ underWayOf (isSet r) (isSet (queue .«unordered_is_selected»)) ≡ withoutRuns number (pendingIn queue (now (unordered .entry)) (now (ordered .entry))) .underWay ⌝ }
 {
     let front = super::peek(queue, unordered, ordered);
     let Found::One(chunk) = front else {
@@ -89,7 +82,7 @@ pub fn remove_message(
     ordered: &[u64],
     number: u64,
 ) -> Removed
-    ensures { λ r. ⌜ (pendingIn (r .queue) (now (unordered .entry)) (now (ordered .entry)) ≡ withoutRuns number (pendingIn queue (now (unordered .entry)) (now (ordered .entry)))) × (r .bytes ≡ bytes (runs number (pendingIn queue (now (unordered .entry)) (now (ordered .entry))))) × (r .last ≡ found (last (runs number (pendingIn queue (now (unordered .entry)) (now (ordered .entry)))))) × (Counted queue (now (unordered .entry)) (now (ordered .entry)) → Counted (r .queue) (now (unordered .entry)) (now (ordered .entry))) ⌝ }
+    ensures { λ r. ⌜ Removes number queue (now (unordered .entry)) (now (ordered .entry)) (r .queue) (r .bytes) (r .last) ⌝ }
 {
     let selected = still_selected(queue, unordered, ordered, number);
     let one = remove_run(queue.ordered, ordered, number);
@@ -115,7 +108,7 @@ pub fn remove_message(
 
 // Closes the gap in a stream's SSNs behind an ordered message that leaves wholly unsent.
 pub fn compact_ordered_ssns(queue: PendingQueue, ordered: &mut [u64], stream: u16)
-    ensures { λ _. ⌜ (held (queue .ordered) (now (ordered .exit)) ≡ map (lowered stream) (held (queue .ordered) (now (ordered .entry)))) × ((unordered : List ℕ) → Counted queue unordered (now (ordered .entry)) → Counted queue unordered (now (ordered .exit))) ⌝ }
+    ensures { λ _. ⌜ ClosesGap stream queue (now (ordered .entry)) (now (ordered .exit)) ⌝ }
 {
     let ring = queue.ordered;
     let n = ring::count(ring, ordered);

@@ -1,18 +1,17 @@
 -- What a ring in lent cells holds, and what its calls do to that list. In the laws `k` is the slot that the code has computed, and `vs`
 -- are the words after a change of that slot.
-use mathlib.Core.Path.{_≡_, refl, sym, ap, _∙_}
-use mathlib.Core.Bool.{Bool}
+use mathlib.Core.Path.{_≡_, refl, ap, _∙_}
+use mathlib.Core.Option.{Option, none, some}
 use mathlib.Core.List.{List, [], _∷_, _++_}
 use Prim.Native.Nat.{ℕ, zero, suc, _+_, _-_, _%_, _≤_, _<_, min}
 use native.Mathlib.Nat.{mod-lt, not-suc-le-zero, le-of-suc-le-suc}
 use native.Mathlib.Omega.{arith}
 use lib.ListN.{length, getD, getElem?, set, drop}
-use lib.Dec.{ltb}
-use borrow.Author.Tests.{lt-ltb, le-ltb}
 use Rattle.model.specs.declared.Chunk.{Chunk}
 use Rattle.model.specs.declared.Found.{Found}
-use Rattle.model.specs.Lists.{if_then_else_, first, adjust}
+use Rattle.model.specs.Lists.{first, adjust}
 use Rattle.model.specs.Flight.{found}
+use Rattle.rows.specs.Turns.{nil-of}
 use Rattle.rows.specs.Rounds.{cellOf, cell-low, round, round-length, round-get, round-set, round-adjust, round-push, round-pop}
 use Rattle.cells.specs.Slots.{roomOf, limit, length-slots}
 use Rattle.chunk_slot.specs.Chunks.{chunkIn, chunks, blankChunk}
@@ -26,16 +25,16 @@ held r ws = round (r .start) (r .len) (chunks ws)
 abbrev pub slotOf : Ring → List ℕ → ℕ → ℕ
 slotOf r ws i = cellOf (roomOf ws) (r .start) (r .len) i
 
--- a chunk is added at the end where the list is below the room
-abbrev pub pushed : (room : ℕ) → List Chunk → Chunk → List Chunk
-pushed room l c = if ltb (length l) room then l ++ (c ∷ []) else l
-
 -- ---- how many there are
 
 pub length-held : (r : Ring) (ws : List ℕ) → length (held r ws) ≡ min (r .len) (roomOf ws)
 length-held r ws = round-length (roomOf ws) (r .start) (r .len) (chunks ws) (length-slots chunkIn ws)
 
--- so sums of 32-bit numbers over them fit 64 bits
+-- a ring of length 0 holds nothing
+pub held-none : (r : Ring) (ws : List ℕ) → r .len ≡ 0 → held r ws ≡ []
+held-none r ws e = nil-of (held r ws) (omega (arith, length-held r ws))
+
+-- never more than the limit: so sums of 32-bit numbers over them fit 64 bits
 pub held-limit : (r : Ring) (ws : List ℕ) → length (held r ws) ≤ limit
 held-limit r ws = omega (arith, length-held r ws)
 
@@ -89,18 +88,21 @@ first-at r ws s e h =
     let k : s ≡ s + 0 = omega arith in
     ap Found.One (held-get r ws 0 s (k ∙ cell-low (roomOf ws) (r .start) (r .len) 0 s e n l)) ∙ get-in (held r ws) 0 h ∙ get-first (held r ws)
 
--- what an answer says of the list
-pub found-none : (l : List Chunk) → found (first l) ≡ Found.Nothing → l ≡ []
-found-none [] q = refl
-found-none (c ∷ l) q = let z : _≡_ {A = ℕ} 0 1 = cc in absurd (omega arith)
+-- ---- what an answer says of what is there
 
-pub found-one : (l : List Chunk) (c : Chunk) → found (first l) ≡ Found.One c → l ≡ c ∷ drop 1 l
-found-one [] c q = let z : _≡_ {A = ℕ} 0 1 = cc in absurd (omega arith)
-found-one (x ∷ l) c q = ap (λ (y : Chunk). y ∷ l) (cc)
+pub found-none : (o : Option Chunk) → found o ≡ Found.Nothing → o ≡ none
+found-none none e = refl
+found-none (some d) e = let z : _≡_ {A = ℕ} 0 1 = cc in absurd (omega arith)
 
-module _ (room : ℕ) (l : List Chunk) (c : Chunk) where
-  pub pushed-room : length l < room → l ++ (c ∷ []) ≡ pushed room l c
-  pushed-room h = sym (ap (λ (b : Bool). if b then l ++ (c ∷ []) else l) (lt-ltb (length l) room h))
+pub found-some : (o : Option Chunk) (c : Chunk) → found o ≡ Found.One c → o ≡ some c
+found-some none c e = let z : _≡_ {A = ℕ} 0 1 = cc in absurd (omega arith)
+found-some (some d) c e = let q : d ≡ c = cc in ap some q
 
-  pub pushed-full : room ≤ length l → l ≡ pushed room l c
-  pushed-full h = sym (ap (λ (b : Bool). if b then l ++ (c ∷ []) else l) (le-ltb (length l) room h))
+-- and of a list
+pub first-none : (l : List Chunk) → found (first l) ≡ Found.Nothing → l ≡ []
+first-none [] e = refl
+first-none (x ∷ l) e = let z : _≡_ {A = ℕ} 0 1 = cc in absurd (omega arith)
+
+pub first-one : (l : List Chunk) (c : Chunk) → found (first l) ≡ Found.One c → l ≡ c ∷ drop 1 l
+first-one [] c e = let z : _≡_ {A = ℕ} 0 1 = cc in absurd (omega arith)
+first-one (x ∷ l) c e = let q : x ≡ c = cc in ap (λ (y : Chunk). y ∷ l) q

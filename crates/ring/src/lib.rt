@@ -13,7 +13,8 @@ ghost use Rattle.model.specs.Lists.{first};
 ghost use Rattle.model.specs.Flight.{found};
 ghost use Rattle.cells.specs.Slots.{roomOf};
 ghost use Rattle.chunk_slot.specs.Chunks.{blankChunk};
-ghost use Rattle.ring.specs.Held.{slotOf, held, pushed};
+ghost use Rattle.rows.specs.Joins.{pushed};
+ghost use Rattle.ring.specs.Held.{slotOf, held};
 
 #[repr(C)]
 pub struct Ring {

@@ -13,12 +13,6 @@ module _ {A : Type 0} where
   adjust-set f zero (x ∷ l) d = refl
   adjust-set f (suc i) (x ∷ l) d = ap (λ (r : List A). x ∷ r) (adjust-set f i l d)
 
-  pub length-adjust : (f : A → A) (i : ℕ) (l : List A) → length (adjust f i l) ≡ length l
-  length-adjust f zero [] = refl
-  length-adjust f (suc i) [] = refl
-  length-adjust f zero (x ∷ l) = refl
-  length-adjust f (suc i) (x ∷ l) = ap suc (length-adjust f i l)
-
   -- an element that f leaves as it is, or one that is not there
   pub adjust-same : (f : A → A) (i : ℕ) (l : List A) (d : A) → f (getD l i d) ≡ getD l i d → adjust f i l ≡ l
   adjust-same f i l d e = adjust-set f i l d ∙ ap (set l i) e ∙ set-getD l i d

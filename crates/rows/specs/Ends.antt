@@ -5,7 +5,7 @@ use Prim.Native.Nat.{ℕ, zero, suc, _-_, _≤_, _<_}
 use native.Mathlib.Nat.{not-suc-le-zero, le-of-suc-le-suc}
 use native.Mathlib.Omega.{arith}
 use mathlib.Core.List.{List, [], _∷_, _++_, map, append-nil}
-use lib.ListN.{length, getD, take, drop, length-map, drop-of-length-le}
+use lib.ListN.{length, getD, take, drop, drop-of-length-le}
 use lib.Seq.{take-all}
 use Rattle.model.specs.Lists.{if_then_else_, adjust}
 use Rattle.rows.specs.Walks.{all, mapEnd}
@@ -84,15 +84,3 @@ module _ {A : Type 0} where
     sym (ap (λ (r : List A). take i l ++ map f r) (drop-of-length-le l h) ∙ append-nil (take i l) ∙ take-all i l h),
     ap (all p) (drop-of-length-le l h),
   )
-
-  -- the list stays as long
-  length-if : (b : Bool) (l m : List A) → length l ≡ length m → length (if b then l else m) ≡ length m
-  length-if true l m e = e
-  length-if false l m e = refl
-
-  pub length-end : (p : A → Bool) (f : A → A) (l : List A) → length (mapEnd p f l) ≡ length l
-  length-end p f [] = refl
-  length-end p f (x ∷ l) =
-      let e = length-end p f l in
-      let h : length (map f (x ∷ l)) ≡ length (x ∷ mapEnd p f l) = omega (arith, length-map l f, e) in
-      length-if (all p (x ∷ l)) (map f (x ∷ l)) (x ∷ mapEnd p f l) h ∙ ap suc e

@@ -8,7 +8,7 @@ use lib.ListN.{length}
 use lib.Dec.{ltb}
 use Rattle.model.specs.declared.Stream.{Stream}
 use Rattle.model.specs.State.{Sender, Out, withStreams}
-use Rattle.stream_table.specs.Tables.{joined}
+use Rattle.rows.specs.Joins.{pushed}
 use Rattle.outbound_queue.specs.Outbound.{Does}
 use Rattle.sender_head.specs.declared.Head.{Head}
 use Rattle.sender_head.specs.Whole.{roomIn, senderOf, Counted}
@@ -29,4 +29,4 @@ Leans lean call h ws h′ ws′ answer =
 -- a stream joins the table, where there is room: whether there was
 abbrev pub Joins : Stream → Head → List ℕ → Head → List ℕ → Bool → Type 0
 Joins t h ws h′ ws′ done =
-    Becomes (λ s. withStreams (joined (roomIn ws .streams) (s .streams) t) s) h ws h′ ws′ × (done ≡ ltb (length (senderOf h ws .streams)) (roomIn ws .streams))
+    Becomes (λ s. withStreams (pushed (roomIn ws .streams) (s .streams) t) s) h ws h′ ws′ × (done ≡ ltb (length (senderOf h ws .streams)) (roomIn ws .streams))

@@ -17,10 +17,11 @@ use Rattle.model.specs.Lists.{if_then_else_}
 use Rattle.model.specs.State.{Sender, Out, same, withStreams}
 use Rattle.model.specs.Streams.{find, put, delivering, thresholds, accounted, opened, openNew, openStream, changed, setReliability, setLow, setHigh, releasing, release}
 use Rattle.model.specs.Rings.{ssnBefore, dropSsn}
+use Rattle.rows.specs.Joins.{pushed, pushed-room}
 use Rattle.stream.specs.declared.amounts.Freed.{Freed}
 use Rattle.stream.specs.Amounts.{freeing}
 use Rattle.stream_table.specs.declared.Place.the-variants.{At, Nothing}
-use Rattle.stream_table.specs.Tables.{sought, joined, none-found, at-found, update-put, joined-room}
+use Rattle.stream_table.specs.Tables.{sought, none-found, at-found, update-put}
 
 -- ---- a stream that is not open
 
@@ -121,7 +122,7 @@ module _ (room : Room) (id m : ℕ) (s : Sender) where
     open-again i t e = within (at-found id (s .streams) i t e .0)
 
     -- none has the identifier, and the new stream `x` joins: `d` tells whether there was room, and `z` is the sender then
-    module _ (e : Nothing ≡ sought id (s .streams)) {d : Bool} (r : d ≡ ltb (length (s .streams)) (room .streams)) {x : Stream} (w : x ≡ opened id m) {z : Sender} (b : z ≡ withStreams (joined (room .streams) (s .streams) x) s) where
+    module _ (e : Nothing ≡ sought id (s .streams)) {d : Bool} (r : d ≡ ltb (length (s .streams)) (room .streams)) {x : Stream} (w : x ≡ opened id m) {z : Sender} (b : z ≡ withStreams (pushed (room .streams) (s .streams) x) s) where
       -- those that are open
       abbrev ts : List Stream
       ts = s .streams
@@ -143,5 +144,5 @@ module _ (room : Room) (id m : ℕ) (s : Sender) where
       open-done q =
           let h = ltb-true (length ts) (room .streams) (sym r ∙ q) in
           ap (λ (o : Sender). record { after = o; says = Done.Done }) b
-          ∙ ap (λ (l : List Stream). record { after = withStreams l s; says = Done.Done }) (joined-room (room .streams) ts x h ∙ ap (λ (y : Stream). ts ++ (y ∷ [])) w)
+          ∙ ap (λ (l : List Stream). record { after = withStreams l s; says = Done.Done }) (sym (pushed-room (room .streams) ts x h) ∙ ap (λ (y : Stream). ts ++ (y ∷ [])) w)
           ∙ absent-now (lt-leb (room .streams) (length ts) h)

@@ -1,20 +1,21 @@
 -- The table of streams in lent cells. A caller of `find` goes on by `at-found` or `none-found`, of `update` by `update-put`, and of `open`
--- by `joined-room`.
+-- by `pushed-room` of `rows`.
 use mathlib.Core.Path.{_≡_, refl, sym, ap, _∙_}
 use mathlib.Core.Bool.{Bool, true, false}
 use mathlib.Core.Option.{Option, none, some}
-use mathlib.Core.List.{List, [], _∷_, _++_}
+use mathlib.Core.List.{List, [], _∷_}
 use Prim.Native.Nat.{ℕ, suc, _+_, _≤_, _<_, min}
 use native.Mathlib.Nat.{zero-add, add-zero}
 use native.Mathlib.Numerals.{add-one}
 use native.Mathlib.Omega.{arith}
 use lib.ListN.{length, getD, set, take, drop, length-take}
 use lib.Seq.{getD-take, take-set-lt, take-suc-set, set-out}
-use lib.Dec.{ltb, eqb}
-use borrow.Author.Tests.{lt-ltb, le-ltb, eqb-true, eq-eqb, ne-eqb}
+use lib.Dec.{eqb}
+use borrow.Author.Tests.{eqb-true, eq-eqb, ne-eqb}
 use Rattle.model.specs.declared.Stream.{Stream}
 use Rattle.model.specs.Lists.{if_then_else_}
 use Rattle.model.specs.Streams.{find, put}
+use Rattle.rows.specs.Joins.{pushed, pushed-room, pushed-full}
 use Rattle.rows.specs.Turns.{read-turn, rest-none}
 use Rattle.cells.specs.Slots.{roomOf, length-slots}
 use Rattle.stream_table.specs.Streams.{streamIn, streams, blankStream}
@@ -37,10 +38,6 @@ placed (some t) i = At i t
 
 abbrev pub sought : (identifier : ℕ) → List Stream → Place
 sought id l = placed (find id l) (placeOf id l)
-
--- a stream joins the table where that is below the room
-abbrev pub joined : (room : ℕ) → List Stream → Stream → List Stream
-joined room l t = if ltb (length l) room then l ++ (t ∷ []) else l
 
 -- ---- for callers
 
@@ -84,9 +81,6 @@ update-put id l i t s e q =
     let f = at-found id l i t e in
     let k : id ≡ s .identifier = sym (q ∙ found-identifier id l t (f .0)) in
     ap (λ (j : ℕ). set l j s) (f .1 ∙ ap (λ (n : ℕ). placeOf n l) k) ∙ put-place s l
-
-pub joined-room : (room : ℕ) (l : List Stream) (t : Stream) → length l < room → joined room l t ≡ l ++ (t ∷ [])
-joined-room room l t h = ap (λ (b : Bool). if b then l ++ (t ∷ []) else l) (lt-ltb (length l) room h)
 
 -- ---- how many there are
 
@@ -134,19 +128,19 @@ module _ (n : ℕ) (ws vs : List ℕ) (t : Stream) where
   pub table-set : (i : ℕ) → streams vs ≡ set (streams ws) i t → i < n → tableOf n vs ≡ set (tableOf n ws) i t
   table-set i q h = ap (take n) q ∙ take-set-lt n (streams ws) i t h
 
-  pub table-join : streams vs ≡ set (streams ws) n t → n < roomOf ws → tableOf (n + 1) vs ≡ joined (roomOf ws) (tableOf n ws) t
+  pub table-join : streams vs ≡ set (streams ws) n t → n < roomOf ws → tableOf (n + 1) vs ≡ pushed (roomOf ws) (tableOf n ws) t
   table-join q h =
       let k : n < length (streams ws) = omega (arith, length-slots streamIn ws) in
       let j : length (tableOf n ws) < roomOf ws = omega (arith, length-table n ws) in
       ap (λ (m : ℕ). take m (streams vs)) (add-one n) ∙ ap (take (suc n)) q ∙ take-suc-set (streams ws) n t k
-      ∙ sym (joined-room (roomOf ws) (tableOf n ws) t j)
+      ∙ pushed-room (roomOf ws) (tableOf n ws) t j
 
 -- ---- none is
 
 pub table-past : (n : ℕ) (ws : List ℕ) (i : ℕ) (t : Stream) → n ≤ i → tableOf n ws ≡ set (tableOf n ws) i t
 table-past n ws i t h = let k : length (tableOf n ws) ≤ i = omega (arith, length-table n ws) in sym (set-out (tableOf n ws) i t k)
 
-pub table-full : (n : ℕ) (ws : List ℕ) (t : Stream) → roomOf ws ≤ n → tableOf n ws ≡ joined (roomOf ws) (tableOf n ws) t
+pub table-full : (n : ℕ) (ws : List ℕ) (t : Stream) → roomOf ws ≤ n → tableOf n ws ≡ pushed (roomOf ws) (tableOf n ws) t
 table-full n ws t h =
     let k : roomOf ws ≤ length (tableOf n ws) = omega (arith, length-table n ws) in
-    sym (ap (λ (b : Bool). if b then tableOf n ws ++ (t ∷ []) else tableOf n ws) (le-ltb (length (tableOf n ws)) (roomOf ws) k))
+    pushed-full (roomOf ws) (tableOf n ws) t k

@@ -7,7 +7,8 @@ ghost use mathlib.Core.Path.{_≡_};
 ghost use lib.ListN.{length, set};
 ghost use lib.Dec.{ltb};
 ghost use Rattle.cells.specs.Slots.{roomOf};
-ghost use Rattle.stream_table.specs.Tables.{tableOf, sought, joined};
+ghost use Rattle.rows.specs.Joins.{pushed};
+ghost use Rattle.stream_table.specs.Tables.{tableOf, sought};
 
 // Where a stream stands, and the stream.
 pub enum Place {
@@ -47,7 +48,7 @@ pub fn find(count: usize, cells: &[u64], identifier: u16) -> Place
 
 // One more at the end, where there is room.
 pub fn open(count: usize, cells: &mut [u64], stream: Stream) -> Opened
-    ensures { λ r. ⌜ (tableOf (r .count) (now (cells .exit)) ≡ joined (roomOf (now (cells .entry))) (tableOf count (now (cells .entry))) stream) × (r .done ≡ ltb (length (tableOf count (now (cells .entry)))) (roomOf (now (cells .entry)))) ⌝ }
+    ensures { λ r. ⌜ (tableOf (r .count) (now (cells .exit)) ≡ pushed (roomOf (now (cells .entry))) (tableOf count (now (cells .entry))) stream) × (r .done ≡ ltb (length (tableOf count (now (cells .entry)))) (roomOf (now (cells .entry)))) ⌝ }
 {
     if cells::room(cells) <= count {
         return Opened {

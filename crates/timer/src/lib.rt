@@ -101,9 +101,6 @@ impl Entry {
     }
 }
 
-// The interval that a caller starts the Ack timer with.
-pub const ACK_INTERVAL: u64 = 200;
-
 // `rto_max` has 32 bits, so that a deadline fits for every table at all.
 pub struct TimerTable {
     pub entries: [Entry; TIMER_COUNT],

@@ -1,23 +1,15 @@
 -- The table that words mean: three words to a timer, in the order of `Timer::VALUES`. Every words mean a table.
 use mathlib.Core.Path.{_≡_}
-use mathlib.Core.Bool.{Bool, true, false, not}
+use mathlib.Core.Bool.{Bool, true, false}
 use mathlib.Core.List.{List, [], _∷_}
 use Prim.Native.Nat.{ℕ, _/_, _%_}
-use lib.Dec.{eqb}
 use Rattle.limits.specs.declared.Moment.{Moment}
+pub use Rattle.limits.specs.Flags.{isSet}
+pub use Rattle.limits.specs.Moments.{momentOf}
 use Rattle.timer.specs.declared.Maximum.{Maximum}
 use Rattle.timer.specs.declared.Entry.{Entry}
 use Rattle.timer.specs.declared.TimerTable.{TimerTable}
 use Rattle.timer_cells.specs.declared.Head.{Head}
-
--- any byte but 0 is yes
-abbrev pub isSet : ℕ → Bool
-isSet n = not (eqb n 0)
-
--- a deadline, where there is one
-abbrev pub momentOf : (is : Bool) → (time : ℕ) → Moment
-momentOf true t = Moment.At t
-momentOf false t = Moment.Absent
 
 -- a maximum of retransmissions, where there is one
 abbrev pub maximumOf : (is : Bool) → (most : ℕ) → Maximum

@@ -1,7 +1,7 @@
 -- By the flag.
 use mathlib.Core.Path.{sym, ap}
 use mathlib.Core.Bool.{Bool}
-use Rattle.cells.specs.Words.{momentOf}
+use Rattle.limits.specs.Moments.{momentOf}
 use borrow.Author.Needs.{needs}
 use Rattle.chunk_slot.proofs.moment_of.Statement.{statement}
 use Rattle.chunk_slot.proofs.moment_of.Tie as tie

@@ -3,7 +3,8 @@ use mathlib.Core.Path.{refl, sym, ap}
 use mathlib.Core.List.{List}
 use Prim.Native.Nat.{ℕ}
 use Rattle.model.specs.Rings.{bytes}
-use Rattle.payload_queue.specs.Cases.{entries-are, held-none}
+use Rattle.ring.specs.Held.{held-none}
+use Rattle.payload_queue.specs.Cases.{entries-are}
 use Rattle.payload_queue.proofs.new.Statement.{statement}
 use Rattle.payload_queue.proofs.new.Tie as tie
 

@@ -2,10 +2,10 @@
 use mathlib.Core.Path.{_∙_, sym}
 use native.Mathlib.Omega.{arith}
 use denote.Ref.{now}
-use Rattle.ring.specs.Held.{held}
+use Rattle.ring.specs.Held.{held, first-one}
 use Rattle.payload_queue.specs.Queue.{flightOf}
 use Rattle.payload_queue.specs.Sums.{counted-less}
-use Rattle.payload_queue.specs.Cases.{first-one, bytes-rest, pop-other, pop-none, pop-one}
+use Rattle.payload_queue.specs.Cases.{bytes-rest, pop-other, pop-none, pop-one}
 use borrow.Author.Needs.{needs}
 use Rattle.payload_queue.proofs.pop.Statement.{statement}
 use Rattle.payload_queue.proofs.pop.Tie as tie

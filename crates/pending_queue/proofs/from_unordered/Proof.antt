@@ -1,7 +1,7 @@
 -- What is under way decides, and else whether the unordered ring has a front.
 use denote.Ref.{now}
 use Rattle.ring.specs.Held.{held}
-use Rattle.pending_queue.specs.Queue.{isSet, is-set, not-set}
+use Rattle.limits.specs.Flags.{isSet, is-set, not-set}
 use Rattle.pending_queue.specs.Fronts.{ahead-sending, ahead-idle}
 use borrow.Author.Needs.{needs}
 use Rattle.pending_queue.proofs.from_unordered.Statement.{statement}

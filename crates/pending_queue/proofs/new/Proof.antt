@@ -5,7 +5,8 @@ use Prim.Native.Nat.{ℕ}
 use native.Mathlib.Omega.{arith}
 use Rattle.model.specs.Rings.{bytes}
 use Rattle.ring.specs.Held.{held}
-use Rattle.pending_queue.specs.Queue.{both, held-none}
+use Rattle.ring.specs.Held.{held-none}
+use Rattle.pending_queue.specs.Queue.{both}
 use Rattle.pending_queue.proofs.new.Statement.{statement}
 use Rattle.pending_queue.proofs.new.Tie as tie
 

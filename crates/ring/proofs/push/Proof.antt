@@ -6,7 +6,8 @@ use denote.Ref.{now}
 use lib.ListN.{length}
 use borrow.Author.Tests.{lt-ltb, le-ltb}
 use Rattle.cells.specs.Slots.{roomOf}
-use Rattle.ring.specs.Held.{held, length-held, held-push, pushed-room, pushed-full}
+use Rattle.rows.specs.Joins.{pushed-room, pushed-full}
+use Rattle.ring.specs.Held.{held, length-held, held-push}
 use borrow.Author.Needs.{needs}
 use Rattle.ring.proofs.push.Statement.{statement}
 use Rattle.ring.proofs.push.Tie as tie

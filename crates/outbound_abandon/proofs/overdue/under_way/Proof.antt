@@ -2,7 +2,7 @@
 use mathlib.Core.Path.{sym, _∙_}
 use denote.Ref.{now}
 use Rattle.model.specs.Rings.{head}
-use Rattle.pending_queue.specs.Queue.{isSet, is-set, not-set}
+use Rattle.limits.specs.Flags.{isSet, is-set, not-set}
 use Rattle.outbound_queue.specs.Outbound.{ringsIn, waiting}
 use Rattle.outbound_abandon.specs.Listings.{named-idle, named-none, named-head}
 use borrow.Author.Needs.{needs}

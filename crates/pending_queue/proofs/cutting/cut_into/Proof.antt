@@ -9,7 +9,8 @@ use lib.ListN.{length, length-append}
 use lib.Dec.{eqb}
 use Rattle.model.specs.Messages.{pieces, piece, cut}
 use Rattle.cells.specs.Slots.{roomOf, limit}
-use Rattle.ring.specs.Held.{held, pushed-room}
+use Rattle.rows.specs.Joins.{pushed-room}
+use Rattle.ring.specs.Held.{held}
 use Rattle.pending_queue.specs.Fragments.{fits-parts, cut-turn, cut-done}
 use borrow.Author.Needs.{needs}
 use Rattle.pending_queue.proofs.cutting.cut_into.Statement.{statement}

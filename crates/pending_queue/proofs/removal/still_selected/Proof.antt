@@ -2,7 +2,8 @@
 use mathlib.Core.Path.{_∙_, sym}
 use denote.Ref.{now}
 use Rattle.model.specs.Rings.{head}
-use Rattle.pending_queue.specs.Queue.{isSet, underWayOf, pendingIn}
+use Rattle.limits.specs.Flags.{isSet}
+use Rattle.pending_queue.specs.Queue.{underWayOf, pendingIn}
 use Rattle.pending_queue.specs.Runs.{ended-none, ended-one, ended-other}
 use borrow.Author.Needs.{needs}
 use Rattle.pending_queue.proofs.removal.still_selected.Statement.{statement}

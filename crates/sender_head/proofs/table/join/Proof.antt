@@ -6,7 +6,8 @@ use denote.Ref.{now}
 use lib.ListN.{length}
 use lib.Dec.{ltb}
 use Rattle.cells.specs.Slots.{roomOf}
-use Rattle.stream_table.specs.Tables.{tableOf, joined}
+use Rattle.rows.specs.Joins.{pushed}
+use Rattle.stream_table.specs.Tables.{tableOf}
 use Rattle.sender_head.specs.Whole.{Halves, parts-are}
 use Rattle.sender_head.specs.Tables.{table-changed, counted-still}
 use borrow.Author.Needs.{needs}
@@ -40,7 +41,7 @@ returns c =
     let p = m .last .1 .0 in
     let n = a .h .streams in
     let o = m .result .count in (
-      (table-changed (a .h) ws p (k .result) (k .ensures .0) (search needs) o (λ (w : List ℕ). joined (roomOf w) (tableOf n w) (a .stream)) (m .ensures .0), counted-still (a .h) ws p (k .result) (k .ensures .0) (search needs) o),
+      (table-changed (a .h) ws p (k .result) (k .ensures .0) (search needs) o (λ (w : List ℕ). pushed (roomOf w) (tableOf n w) (a .stream)) (m .ensures .0), counted-still (a .h) ws p (k .result) (k .ensures .0) (search needs) o),
       m .ensures .1 ∙ ap (λ (x : Halves). ltb (length (tableOf n (x .table))) (roomOf (x .table))) (parts-are ws (k .result) (k .ensures .0)),
     )
 
