@@ -120,70 +120,43 @@ pub fn ask(h: Head, cells: &[u64], query: Query) -> Answer
     ensures { λ r. ⌜ ((asksSum query ≡ true → Counted h (now (cells .entry))) → said r ≡ answer (asked query) (senderOf h (now (cells .entry)))) ⌝ }
 {
     match query {
-        Query::Get { tsn } => {
-            let found = sender_asks::get(h, cells, tsn);
-            Answer::ToFind(found)
-        }
-        Query::IsAbandoned { tsn } => {
-            let yes = sender_asks::is_abandoned(h, cells, tsn);
-            Answer::YesNo(yes)
-        }
-        Query::PeekPending => {
-            let found = sender_asks::peek_pending(h, cells);
-            Answer::ToFind(found)
-        }
-        Query::NextMessage => {
-            let number = sender_asks::next_message(h);
-            Answer::Number(number)
-        }
-        Query::NextTsn => {
-            let tsn = sender_asks::next_tsn(h, cells);
-            Answer::Number(tsn as u64)
-        }
-        Query::PendingLength => {
-            let length = sender_asks::pending_length(h, cells);
-            Answer::Number(length as u64)
-        }
-        Query::PendingBytes => {
-            let bytes = sender_asks::pending_bytes(h);
-            Answer::Number(bytes)
-        }
-        Query::InflightLength => {
-            let length = sender_asks::inflight_length(h, cells);
-            Answer::Number(length as u64)
-        }
-        Query::InflightBytes => {
-            let bytes = sender_asks::inflight_bytes(h);
-            Answer::Number(bytes)
-        }
-        Query::EarliestOutstanding => {
-            let earliest = sender_asks::earliest_outstanding(h, cells);
-            Answer::ToSeek(earliest)
-        }
-        Query::PendingContainsStream { identifier } => {
-            let yes = sender_asks::pending_contains_stream(h, cells, identifier);
-            Answer::YesNo(yes)
-        }
-        Query::ContainsStream { identifier } => {
-            let yes = sender_asks::contains_stream(h, cells, identifier);
-            Answer::YesNo(yes)
-        }
-        Query::BufferedAmount { identifier } => {
-            let amount = sender_asks::buffered_amount(h, cells, identifier);
-            Answer::ToMeasure(amount)
-        }
-        Query::LowThreshold { identifier } => {
-            let amount = sender_asks::low_threshold(h, cells, identifier);
-            Answer::ToMeasure(amount)
-        }
-        Query::HighThreshold { identifier } => {
-            let amount = sender_asks::high_threshold(h, cells, identifier);
-            Answer::ToMeasure(amount)
-        }
-        Query::Statistics { identifier } => {
-            let counted = sender_asks::statistics(h, cells, identifier);
-            Answer::ToCount(counted)
-        }
+        Query::Get { tsn } => Answer::ToFind(sender_asks::get(h, cells, tsn)),
+        Query::IsAbandoned { tsn } => Answer::YesNo(sender_asks::is_abandoned(h, cells, tsn)),
+        Query::PeekPending => Answer::ToFind(sender_asks::peek_pending(h, cells)),
+        Query::NextMessage => Answer::Number(sender_asks::next_message(h)),
+        Query::NextTsn => Answer::Number(sender_asks::next_tsn(h, cells) as u64),
+        Query::PendingLength => Answer::Number(sender_asks::pending_length(h, cells) as u64),
+        Query::PendingBytes => Answer::Number(sender_asks::pending_bytes(h)),
+        Query::InflightLength => Answer::Number(sender_asks::inflight_length(h, cells) as u64),
+        Query::InflightBytes => Answer::Number(sender_asks::inflight_bytes(h)),
+        Query::EarliestOutstanding => Answer::ToSeek(sender_asks::earliest_outstanding(h, cells)),
+        Query::PendingContainsStream { identifier } =>
+            Answer::YesNo(sender_asks::pending_contains_stream(h, cells, identifier)),
+        Query::ContainsStream { identifier } => Answer::YesNo(sender_asks::contains_stream(
+            h,
+            cells,
+            identifier,
+        )),
+        Query::BufferedAmount { identifier } => Answer::ToMeasure(sender_asks::buffered_amount(
+            h,
+            cells,
+            identifier,
+        )),
+        Query::LowThreshold { identifier } => Answer::ToMeasure(sender_asks::low_threshold(
+            h,
+            cells,
+            identifier,
+        )),
+        Query::HighThreshold { identifier } => Answer::ToMeasure(sender_asks::high_threshold(
+            h,
+            cells,
+            identifier,
+        )),
+        Query::Statistics { identifier } => Answer::ToCount(sender_asks::statistics(
+            h,
+            cells,
+            identifier,
+        )),
     }
 }
 

@@ -1,11 +1,8 @@
 -- By the call: what it does is what its own function does.
-use mathlib.Core.Path.{ap}
 use mir.Facts.{toZ-ofZ}
 use mir.Syntax.{w64}
 use mir.Val.{SFits}
 use denote.Ref.{now}
-use Rattle.model.specs.declared.Done.{Done}
-use Rattle.model.specs.State.{Sender}
 use Rattle.model.specs.Calls.{toDo, toWrite, toRelease, toSend, toExpire, toExpireTail, toAbandon, toFind, number}
 use Rattle.sender_head.specs.Whole.{senderOf}
 use Rattle.calls.specs.Told.{stepped, leanly, exactly, asking, doing}
