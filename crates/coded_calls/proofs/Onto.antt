@@ -3,6 +3,7 @@ use mathlib.Core.Path.{_≡_, refl}
 use mathlib.Core.Bool.{Bool, true, false}
 use Prim.Native.Nat.{ℕ, _%_, _<_, _≤_, _^_, min}
 use native.Mathlib.Omega.{arith}
+use native.Mathlib.Nat.{mod-eq-of-lt}
 use lib.Dec.{eqb}
 use lib.IntN.{ℤ, pos, negsuc}
 use Rattle.model.specs.Calls.{
@@ -45,19 +46,6 @@ use Rattle.cells.specs.Words.{bitOf}
 use Rattle.coded_calls.specs.Coded.{callOf}
 use Rattle.coded_calls.specs.Onto.{ReleaseFits, QueryFits, CallFits, eight, releaseWords, queryWords, WordsFit, HasWords, CallsHaveWords}
 
--- what is below a limit is the same modulo it
-short : {x : ℕ} → x < 2 ^ 16 → x % 2 ^ 16 ≡ x
-short h = omega (arith, h)
-
-middle : {x : ℕ} → x < 2 ^ 32 → x % 2 ^ 32 ≡ x
-middle h = omega (arith, h)
-
-octet : {x : ℕ} → x < 2 ^ 8 → x % 2 ^ 8 ≡ x
-octet h = omega (arith, h)
-
-half : {x : ℕ} → x < 2 ^ 63 → x % 2 ^ 63 ≡ x
-half h = omega (arith, h)
-
 flag : (b : Bool) → eqb (bitOf b % 2) 1 ≡ b
 flag true = refl
 flag false = refl
@@ -68,18 +56,6 @@ zero-fits = omega arith
 flag-fits : (b : Bool) → bitOf b < 2 ^ 64
 flag-fits true = omega arith
 flag-fits false = zero-fits
-
-short-fits : {x : ℕ} → x < 2 ^ 16 → x < 2 ^ 64
-short-fits h = omega (arith, h)
-
-middle-fits : {x : ℕ} → x < 2 ^ 32 → x < 2 ^ 64
-middle-fits h = omega (arith, h)
-
-octet-fits : {x : ℕ} → x < 2 ^ 8 → x < 2 ^ 64
-octet-fits h = omega (arith, h)
-
-half-fits : {x : ℕ} → x < 2 ^ 63 → x < 2 ^ 64
-half-fits h = omega (arith, h)
 
 -- eight words of which five are of the row
 words-of : {k : Call} (row a b c d : ℕ) → callOf (eight row a b c d) ≡ k → row < 31 → a < 2 ^ 64 → b < 2 ^ 64 → c < 2 ^ 64 → d < 2 ^ 64
@@ -94,13 +70,13 @@ words-of-one row a e r p = words-of row a 0 0 0 e r p zero-fits zero-fits zero-f
 
 release-has-words : (id : ℕ) (r : ℤ) → id < 2 ^ 16 → ReleaseFits r → HasWords (Release id r) (releaseWords id r)
 release-has-words id (pos n) h p =
-    words-of 5 id n 0 0 (λ i. Release (short h i) (pos (half p i))) (omega arith) (short-fits h) (half-fits p) zero-fits zero-fits
+    words-of 5 id n 0 0 (λ i. Release (mod-eq-of-lt h i) (pos (mod-eq-of-lt p i))) (omega arith) (omega (arith, h)) (omega (arith, p)) zero-fits zero-fits
 release-has-words id (negsuc n) h p =
-    words-of 5 id n 1 0 (λ i. Release (short h i) (negsuc (half p i))) (omega arith) (short-fits h) (half-fits p) (omega arith) zero-fits
+    words-of 5 id n 1 0 (λ i. Release (mod-eq-of-lt h i) (negsuc (mod-eq-of-lt p i))) (omega arith) (omega (arith, h)) (omega (arith, p)) (omega arith) zero-fits
 
 query-has-words : (q : Query) → QueryFits q → HasWords (Ask q) (queryWords q)
-query-has-words (Get t) h = words-of-one 14 t (λ i. Ask (Get (middle h i))) (omega arith) (middle-fits h)
-query-has-words (IsAbandoned t) h = words-of-one 15 t (λ i. Ask (IsAbandoned (middle h i))) (omega arith) (middle-fits h)
+query-has-words (Get t) h = words-of-one 14 t (λ i. Ask (Get (mod-eq-of-lt h i))) (omega arith) (omega (arith, h))
+query-has-words (IsAbandoned t) h = words-of-one 15 t (λ i. Ask (IsAbandoned (mod-eq-of-lt h i))) (omega arith) (omega (arith, h))
 query-has-words PeekPending h = words-of-one 16 0 refl (omega arith) zero-fits
 query-has-words NextMessage h = words-of-one 17 0 refl (omega arith) zero-fits
 query-has-words NextTsn h = words-of-one 18 0 refl (omega arith) zero-fits
@@ -109,12 +85,12 @@ query-has-words PendingBytes h = words-of-one 20 0 refl (omega arith) zero-fits
 query-has-words InflightLength h = words-of-one 21 0 refl (omega arith) zero-fits
 query-has-words InflightBytes h = words-of-one 22 0 refl (omega arith) zero-fits
 query-has-words EarliestOutstanding h = words-of-one 23 0 refl (omega arith) zero-fits
-query-has-words (PendingContainsStream id) h = words-of-one 24 id (λ i. Ask (PendingContainsStream (short h i))) (omega arith) (short-fits h)
-query-has-words (ContainsStream id) h = words-of-one 25 id (λ i. Ask (ContainsStream (short h i))) (omega arith) (short-fits h)
-query-has-words (BufferedAmount id) h = words-of-one 26 id (λ i. Ask (BufferedAmount (short h i))) (omega arith) (short-fits h)
-query-has-words (LowThreshold id) h = words-of-one 27 id (λ i. Ask (LowThreshold (short h i))) (omega arith) (short-fits h)
-query-has-words (HighThreshold id) h = words-of-one 28 id (λ i. Ask (HighThreshold (short h i))) (omega arith) (short-fits h)
-query-has-words (Statistics id) h = words-of-one 29 id (λ i. Ask (Statistics (short h i))) (omega arith) (short-fits h)
+query-has-words (PendingContainsStream id) h = words-of-one 24 id (λ i. Ask (PendingContainsStream (mod-eq-of-lt h i))) (omega arith) (omega (arith, h))
+query-has-words (ContainsStream id) h = words-of-one 25 id (λ i. Ask (ContainsStream (mod-eq-of-lt h i))) (omega arith) (omega (arith, h))
+query-has-words (BufferedAmount id) h = words-of-one 26 id (λ i. Ask (BufferedAmount (mod-eq-of-lt h i))) (omega arith) (omega (arith, h))
+query-has-words (LowThreshold id) h = words-of-one 27 id (λ i. Ask (LowThreshold (mod-eq-of-lt h i))) (omega arith) (omega (arith, h))
+query-has-words (HighThreshold id) h = words-of-one 28 id (λ i. Ask (HighThreshold (mod-eq-of-lt h i))) (omega arith) (omega (arith, h))
+query-has-words (Statistics id) h = words-of-one 29 id (λ i. Ask (Statistics (mod-eq-of-lt h i))) (omega arith) (omega (arith, h))
 query-has-words (ExpiredInflight now n) h =
     let l = h .1 in
     let e : min n 256 ≡ n = omega (arith, l) in
@@ -122,21 +98,21 @@ query-has-words (ExpiredInflight now n) h =
 
 pub calls-have-words : CallsHaveWords
 calls-have-words (Open id m) h =
-    words-of 0 id m 0 0 (λ i. Open (short (h .0) i) (middle (h .1) i)) (omega arith) (short-fits (h .0)) (middle-fits (h .1)) zero-fits zero-fits
+    words-of 0 id m 0 0 (λ i. Open (mod-eq-of-lt (h .0) i) (mod-eq-of-lt (h .1) i)) (omega arith) (omega (arith, h .0)) (omega (arith, h .1)) zero-fits zero-fits
 calls-have-words (SetReliability id u k v) h =
-    words-of 1 id (bitOf u) k v (λ i. SetReliability (short (h .0) i) (flag u i) (octet (h .1) i) (middle (h .2) i)) (omega arith) (short-fits (h .0))
-    (flag-fits u) (octet-fits (h .1)) (middle-fits (h .2))
-calls-have-words (SetLow id x) h = words-of 2 id x 0 0 (λ i. SetLow (short (h .0) i) x) (omega arith) (short-fits (h .0)) (h .1) zero-fits zero-fits
-calls-have-words (SetHigh id x) h = words-of 3 id x 0 0 (λ i. SetHigh (short (h .0) i) x) (omega arith) (short-fits (h .0)) (h .1) zero-fits zero-fits
+    words-of 1 id (bitOf u) k v (λ i. SetReliability (mod-eq-of-lt (h .0) i) (flag u i) (mod-eq-of-lt (h .1) i) (mod-eq-of-lt (h .2) i)) (omega arith) (omega (arith, h .0))
+    (flag-fits u) (omega (arith, h .1)) (omega (arith, h .2))
+calls-have-words (SetLow id x) h = words-of 2 id x 0 0 (λ i. SetLow (mod-eq-of-lt (h .0) i) x) (omega arith) (omega (arith, h .0)) (h .1) zero-fits zero-fits
+calls-have-words (SetHigh id x) h = words-of 3 id x 0 0 (λ i. SetHigh (mod-eq-of-lt (h .0) i) x) (omega arith) (omega (arith, h .0)) (h .1) zero-fits zero-fits
 calls-have-words (Write id p o l) h =
-    words-of 4 id p o l (λ i. Write (short (h .0) i) (middle (h .1) i) o l) (omega arith) (short-fits (h .0)) (middle-fits (h .1)) (h .2) (h .3)
+    words-of 4 id p o l (λ i. Write (mod-eq-of-lt (h .0) i) (mod-eq-of-lt (h .1) i) o l) (omega arith) (omega (arith, h .0)) (omega (arith, h .1)) (h .2) (h .3)
 calls-have-words (Release id r) h = release-has-words id r (h .0) (h .1)
 calls-have-words (StartLifetimes now) h = words-of-one 6 now refl (omega arith) h
 calls-have-words (Send now) h = words-of-one 7 now refl (omega arith) h
 calls-have-words (ExpirePending now) h = words-of-one 8 now refl (omega arith) h
 calls-have-words (ExpirePendingTail now) h = words-of-one 9 now refl (omega arith) h
-calls-have-words (Abandon t) h = words-of-one 10 t (λ i. Abandon (middle h i)) (omega arith) (middle-fits h)
-calls-have-words (Acknowledge t) h = words-of-one 11 t (λ i. Acknowledge (middle h i)) (omega arith) (middle-fits h)
-calls-have-words (Pop t) h = words-of-one 12 t (λ i. Pop (middle h i)) (omega arith) (middle-fits h)
+calls-have-words (Abandon t) h = words-of-one 10 t (λ i. Abandon (mod-eq-of-lt h i)) (omega arith) (omega (arith, h))
+calls-have-words (Acknowledge t) h = words-of-one 11 t (λ i. Acknowledge (mod-eq-of-lt h i)) (omega arith) (omega (arith, h))
+calls-have-words (Pop t) h = words-of-one 12 t (λ i. Pop (mod-eq-of-lt h i)) (omega arith) (omega (arith, h))
 calls-have-words MarkAll h = words-of-one 13 0 refl (omega arith) zero-fits
 calls-have-words (Ask q) h = query-has-words q h
