@@ -8,6 +8,7 @@ use std::process::Command;
 use girdermoth::*;
 
 const LIMITS: &str = include_str!("../../crates/limits/src/lib.rt");
+const ROOMS: &str = include_str!("../../crates/limits/specs/Limits.antt");
 const MODEL: &str = include_str!("../../crates/model/src/lib.rt");
 const STREAM: &str = include_str!("../../crates/stream/src/lib.rt");
 const AMOUNTS: &str = include_str!("../../crates/stream/src/amounts.rt");
@@ -52,17 +53,12 @@ fn the_declarations_are_the_headers_and_the_header_is_the_sources() {
 #[test]
 fn limits_are_the_sources() {
     let there = constants(LIMITS);
-    let here: [(&str, u64); 6] = [
-        ("CLOCK_MAX", CLOCK_MAX),
-        ("MESSAGE_MAX", MESSAGE_MAX),
-        ("PAYLOAD_MAX", PAYLOAD_MAX.into()),
-        ("STREAMS", STREAMS as u64),
-        ("RING_ROOM", RING_ROOM as u64),
-        ("FLIGHT_ROOM", FLIGHT_ROOM as u64),
-    ];
+    let here: [(&str, u64); 3] = [("CLOCK_MAX", CLOCK_MAX), ("MESSAGE_MAX", MESSAGE_MAX), ("PAYLOAD_MAX", PAYLOAD_MAX.into())];
     for (name, number) in here {
         assert_eq!(there[name].1, number, "{name}");
     }
+    let rooms = format!("room01 = record {{ streams = {STREAMS}; message = {MESSAGE_MAX}; ring = {RING_ROOM}; flight = {FLIGHT_ROOM} }}");
+    assert!(ROOMS.contains(&rooms), "{rooms}");
 }
 
 #[test]
