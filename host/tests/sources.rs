@@ -110,6 +110,7 @@ fn timers_are_the_sources() {
         assert!(TIMER.contains(&format!("Timer::{timer:?} => {}", if timer == Timer::Ack { "Timer::ACK".into() } else { at.to_string() })));
     }
     assert_eq!(constants(TIMER)["ACK"].1, Timer::Ack as u64);
+    assert_eq!(ACK_INTERVAL, 200, "as sctp-proto has it");
 }
 
 /// The proved program that replays scripts begins with the same timers and the same estimator.
