@@ -310,12 +310,12 @@ module _ (d : Head) (ws : List ℕ) (i : ℕ) (e : length ws ≡ 18) (h : i < 6)
     pub not-started : startable clock interval ≡ false → (r : Said) → r ≡ saidOf d 1 → Changes (length ws) i starting d ws (r .head) ws (r .reply)
     not-started s = unchanged starting (Answer.Refused 1) (ap (λ (b : Bool). guarded b (startedOf t k clock interval) t) s)
 
-    pub started : startable clock interval ≡ true → (time v : ℕ) → time ≡ clock + cond (eqb i 5) interval (backoff interval (marks % 4294967296) (d .«rto_max»)) → Marked (λ d e. withTime e (Moment.At d)) marks v → (r : Said) → r ≡ saidOf d 0
-        → Changes (length ws) i starting d ws (r .head) (set (set ws (i * 3) time) (i * 3 + 2) v) (r .reply)
-    started s time v q p =
-        written starting time v (λ x. withTime x (Moment.At time))
-        (ap (λ (b : Bool). guarded b (startedOf t k clock interval) t) s ∙ ap (λ (n : ℕ). changed (withEntry t k (withTime (entryOf t k) (Moment.At n)))) (sym (q ∙ ap (λ (n : ℕ). clock + n) (sym wait-is))))
-        (p time (getD ws (i * 3 + 1) 0))
+    pub started : startable clock interval ≡ true → (n v : ℕ) → n ≡ cond (eqb i 5) interval (backoff interval (marks % 4294967296) (d .«rto_max»)) → Marked (λ d e. withTime e (Moment.At d)) marks v → (r : Said) → r ≡ saidOf d 0
+        → Changes (length ws) i starting d ws (r .head) (set (set ws (i * 3) (clock + n)) (i * 3 + 2) v) (r .reply)
+    started s n v q p =
+        written starting (clock + n) v (λ x. withTime x (Moment.At (clock + n)))
+        (ap (λ (b : Bool). guarded b (startedOf t k clock interval) t) s ∙ ap (λ (n : ℕ). changed (withEntry t k (withTime (entryOf t k) (Moment.At (clock + n))))) (wait-is ∙ sym q))
+        (p (clock + n) (getD ws (i * 3 + 1) 0))
 
     pub not-restarted : startable clock interval ≡ false → (r : Said) → r ≡ saidOf d 1 → Changes (length ws) i restarting d ws (r .head) ws (r .reply)
     not-restarted s = unchanged restarting (Answer.Refused 1) (ap (λ (b : Bool). guarded b (cond (ahead clock (getOf t k)) t (startedOf t k clock interval)) t) s)

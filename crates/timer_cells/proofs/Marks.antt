@@ -147,8 +147,8 @@ counted w d m h =
 -- ---- the branches of an expiry, of an entry e that the words mean
 
 module _ (d m w clock : ℕ) where
-  pub as-step : {s : Step} (r : Step) → r ≡ s → Expires d m w clock (s .marks) (s .reply) → Expires d m w clock (r .marks) (r .reply)
-  as-step r q = subst (λ (x : Step). Expires d m w clock (x .marks) (x .reply)) (sym q)
+  pub as-step : (s r : Step) → r ≡ s → Expires d m w clock (s .marks) (s .reply) → Expires d m w clock (r .marks) (r .reply)
+  as-step s r q = subst (λ (x : Step). Expires d m w clock (x .marks) (x .reply)) (sym q)
 
   pub late : clockMax < clock → Expires d m w clock w (expiredOf (Expiry.Refused 1))
   late h = record { said = simp (lt-leb _ _ h); left = simp (lt-leb _ _ h); kept = λ z. refl }

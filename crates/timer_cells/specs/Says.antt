@@ -48,6 +48,7 @@ expiredOf (Expiry.Refused n) = record { count = 0; refusal = n; expired = false;
 abbrev pub saidOf : Head → ℕ → Said
 saidOf d n = record { head = d; reply = n }
 
+-- the same of an expiry
 abbrev pub saidExpiry : Head → Expiry → SaidExpired
 saidExpiry d a = record { head = d; reply = expiredOf a }
 

@@ -1,9 +1,11 @@
 -- A law of `Marks` for each way out.
 use native.Mathlib.Omega.{arith}
 use mathlib.Core.Path.{_≡_, sym, ap, _∙_}
-use Prim.Native.Nat.{_%_}
+use mathlib.Core.Bool.{true, false}
+use Prim.Native.Nat.{_+_, _%_}
 use borrow.Author.Tests.{not-true, not-false}
 use Rattle.timer.specs.declared.Entry.{Entry}
+use Rattle.timer_cells.specs.Says.{stepOf}
 use Rattle.timer_cells.proofs.Marks.{as-step, late, alive, spared, full, more}
 use borrow.Author.Needs.{needs}
 use Rattle.timer_cells.proofs.expiry.Statement.{statement}
@@ -15,7 +17,7 @@ stepped-requires c κs = search needs
 returns : tie.Need-returns
 returns c =
     let a = c .before .before .args in
-    as-step (a .deadline) (a .maximum) (a .marks) (a .clock) _ (c .stepped .ensures)
+    as-step (a .deadline) (a .maximum) (a .marks) (a .clock) (stepOf (a .marks) 1 0 false false) _ (c .stepped .ensures)
     (late (a .deadline) (a .maximum) (a .marks) (a .clock) (omega arith))
 
 unpacked-requires : tie.Need-unpacked-requires
@@ -31,7 +33,7 @@ returns-2 : tie.Need-returns-2
 returns-2 c =
     let a = c .before .before .before .before .before .args in
     let u = c .before .before .before .unpacked in
-    as-step (a .deadline) (a .maximum) (a .marks) (a .clock) _ (c .stepped2 .ensures)
+    as-step (a .deadline) (a .maximum) (a .marks) (a .clock) (stepOf (a .marks) 0 (u .result .retrans) false false) _ (c .stepped2 .ensures)
     (alive (a .deadline) (a .maximum) (a .marks) (a .clock) (omega arith) (u .result) (u .ensures) (sym (c .before .before .reached .ensures) ∙ not-true _ (c .before .if2 .taken)))
 
 lifted-requires : tie.Need-lifted-requires
@@ -44,7 +46,7 @@ returns-3 : tie.Need-returns-3
 returns-3 c =
     let a = c .before .before .before .before .before .before .before .args in
     let u = c .before .before .before .before .before .unpacked in
-    as-step (a .deadline) (a .maximum) (a .marks) (a .clock) _ (c .stepped3 .ensures)
+    as-step (a .deadline) (a .maximum) (a .marks) (a .clock) (stepOf (c .before .lifted .result) 0 (u .result .retrans) true false) _ (c .stepped3 .ensures)
     (spared (a .deadline) (a .maximum) (a .marks) (a .clock) (omega arith) (u .result) (u .ensures) (sym (c .before .before .before .before .reached .ensures) ∙ not-false _ (c .before .before .before .if2 .left)) (c .before .before .if3 .taken) (c .before .lifted .result) (c .before .lifted .ensures))
 
 stepped-requires-4 : tie.Need-stepped-requires-4
@@ -54,7 +56,7 @@ returns-4 : tie.Need-returns-4
 returns-4 c =
     let a = c .before .before .before .before .before .before .before .args in
     let u = c .before .before .before .before .before .unpacked in
-    as-step (a .deadline) (a .maximum) (a .marks) (a .clock) _ (c .stepped4 .ensures)
+    as-step (a .deadline) (a .maximum) (a .marks) (a .clock) (stepOf (a .marks) 12 0 false false) _ (c .stepped4 .ensures)
     (full (a .deadline) (a .maximum) (a .marks) (a .clock) (omega arith) (u .result) (u .ensures) (sym (c .before .before .before .before .reached .ensures) ∙ not-false _ (c .before .before .before .if2 .left)) (c .before .before .if3 .left) (c .before .if4 .taken))
 
 add-more : tie.Need-add-more
@@ -76,7 +78,7 @@ returns-5 : tie.Need-returns-5
 returns-5 c =
     let a = c .before .before .before .before .before .before .before .before .args in
     let u = c .before .before .before .before .before .before .unpacked in
-    as-step (a .deadline) (a .maximum) (a .marks) (a .clock) _ (c .stepped5 .ensures)
+    as-step (a .deadline) (a .maximum) (a .marks) (a .clock) (stepOf (a .marks + 1) 0 (u .result .retrans + 1) true (c .before .exceeded .result)) _ (c .stepped5 .ensures)
     (more (a .deadline) (a .maximum) (a .marks) (a .clock) (omega arith) (u .result) (u .ensures) (sym (c .before .before .before .before .before .reached .ensures) ∙ not-false _ (c .before .before .before .before .if2 .left)) (c .before .before .before .if3 .left) (omega arith) (c .before .exceeded .result) (c .before .exceeded .ensures))
 
 pub expiry-spec : {M : Type 1} → statement M

@@ -1,7 +1,6 @@
 -- Refused by the tests, or two words of the timer are written (`started`).
 use native.Mathlib.Omega.{arith}
-use mathlib.Core.Path.{sym, ap, _∙_}
-use Prim.Native.Nat.{ℕ, _+_}
+use mathlib.Core.Path.{sym, _∙_}
 use denote.Ref.{now}
 use lib.ListN.{length, length-set}
 use borrow.Author.Tests.{not-true, not-false}
@@ -85,7 +84,7 @@ same-length c = search needs
 returns-4 : tie.Need-returns-4
 returns-4 c =
     let a = c .before .before .before .before .before .before .before .before .before .args in
-    started (a .head) (now (a .cells)) (a .timer) (omega arith) (omega arith) (a .clock) (a .interval) (sym (c .before .before .before .before .before .startable .ensures) ∙ not-false _ (c .before .before .before .before .if3 .left)) _ _ (ap (λ (n : ℕ). a .clock + n) (c .before .before .wait .ensures .0)) (c .before .timed .ensures) _ (c .answer4 .ensures)
+    started (a .head) (now (a .cells)) (a .timer) (omega arith) (omega arith) (a .clock) (a .interval) (sym (c .before .before .before .before .before .startable .ensures) ∙ not-false _ (c .before .before .before .before .if3 .left)) (c .before .before .wait .result) (c .before .timed .result) (c .before .before .wait .ensures .0) (c .before .timed .ensures) _ (c .answer4 .ensures)
 
 pub start-spec : {M : Type 1} → statement M
 start-spec =
