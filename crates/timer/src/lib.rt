@@ -145,18 +145,17 @@ pub fn startable(now: u64, interval: u64) -> bool
 }
 
 // The wait before the next expiry: doubled for each one counted, up to `rto_max`.
-pub fn calculate_next_timeout(rto: u64, n_rtos: u32, rto_max: u64) -> u64
-    requires { ⌜ rto ≤ settingMax ⌝ }
+pub fn calculate_next_timeout(rto: u32, n_rtos: u32, rto_max: u32) -> u64
     ensures { λ r. ⌜ r ≡ backoff rto «n_rtos» «rto_max» ⌝ }
 {
     if n_rtos >= 31 {
-        return rto_max;
+        return rto_max as u64;
     }
-    let doubled = rto << n_rtos;
-    if doubled < rto_max {
+    let doubled = (rto as u64) << n_rtos;
+    if doubled < rto_max as u64 {
         return doubled;
     }
-    rto_max
+    rto_max as u64
 }
 
 impl TimerTable {
@@ -380,7 +379,7 @@ impl TimerTable {
             return interval;
         }
         let entry = self.entry(timer);
-        calculate_next_timeout(interval, entry.retrans, self.rto_max as u64)
+        calculate_next_timeout(interval as u32, entry.retrans, self.rto_max)
     }
 
     fn refused(self, number: u8) -> Changed

@@ -208,7 +208,7 @@ fn wait(timer: usize, interval: u64, count: u32, rto_max: u32) -> u64
     if timer == Timer::ACK {
         return interval;
     }
-    timer::calculate_next_timeout(interval, count, rto_max as u64)
+    timer::calculate_next_timeout(interval as u32, count, rto_max)
 }
 
 fn stepped(marks: u64, refusal: u8, count: u32, expired: bool, failure: bool) -> Step

@@ -14,12 +14,12 @@ shl-doubled c = search needs
 
 returns-2 : tie.Need-returns-2
 returns-2 c =
-    let fits = doubled-fits _ _ (c .before .before .pre) (c .before .if1 .left) in
+    let fits = doubled-fits (c .before .before .args .rto) _ (search needs) (c .before .if1 .left) in
     simp (fits, lt-ltb _ _ (c .before .if1 .left), min-eq-left (le-of-lt (rw fits at (c .if2 .taken))))
 
 returns-3 : tie.Need-returns-3
 returns-3 c =
-    let fits = doubled-fits _ _ (c .before .before .pre) (c .before .if1 .left) in
+    let fits = doubled-fits (c .before .before .args .rto) _ (search needs) (c .before .if1 .left) in
     simp (lt-ltb _ _ (c .before .if1 .left), min-eq-right (rw fits at (c .if2 .left)))
 
 pub calculate-next-timeout-spec : {M : Type 1} → statement M

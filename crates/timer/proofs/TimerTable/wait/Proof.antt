@@ -24,10 +24,10 @@ calculate-next-timeout-requires c κs = search needs
 
 returns-2 : tie.Need-returns-2
 returns-2 c =
-    let start = c .before .before .before .before .before in
-    let other = ne-eqb _ _ (λ e. c .before .before .before .if1 .left (c .before .before .before .before .index .ensures ∙ e)) in (
-      simp (c .calculate-next-timeout .ensures, c .before .before .entry .ensures, other),
-      omega (arith, c .calculate-next-timeout .ensures, backoff-below (start .args .interval) (c .before .before .entry .result .retrans) (start .args .self .«rto_max»), c .before .struct-known .given),
+    let start = c .before .before .before .before in
+    let other = ne-eqb _ _ (λ e. c .before .before .if1 .left (c .before .before .before .index .ensures ∙ e)) in (
+      simp (c .calculate-next-timeout .ensures, c .before .entry .ensures, other),
+      omega (arith, c .calculate-next-timeout .ensures, backoff-below (start .args .interval) (c .before .entry .result .retrans) (start .args .self .«rto_max»), start .fits),
     )
 
 pub wait-spec : {M : Type 1} → statement M
