@@ -225,7 +225,8 @@ girdermoth_rto_reply girdermoth_rto_reset(girdermoth_rto r);
 // Refused: BEYOND_LIMIT.
 girdermoth_rto_reply girdermoth_rto_set(girdermoth_rto r, uint64_t rto, bool no_update);
 
-// A refused call hands back the timers that were given. A `timer` beyond the six is refused with BEYOND_LIMIT by each of them.
+// A refused call hands back the timers that were given (of those that girdermoth_timers_new did not make, some that mean the same: a flag of 0
+// or 1, and 0 for what a flag of 0 leaves untold). A `timer` beyond the six is refused with BEYOND_LIMIT by each of them.
 // The maxima are those of the init and the data retransmissions, where they exist. Refused: BEYOND_LIMIT.
 girdermoth_timers_reply girdermoth_timers_new(bool has_init, uint64_t init, bool has_data, uint64_t data, uint64_t rto_max);
 // The smallest deadline of the six, where `yes` is set. Never refused.

@@ -1,10 +1,13 @@
 //! The race of the archive with the unchanged Rust, in one process. `bench/run` builds and starts it.
-mod girdermoth;
 mod jobs;
 mod ours;
 mod race;
 mod side;
 mod stopwatch;
+/// The archive's calls, as the host's crate declares them.
+#[allow(dead_code)]
+#[path = "../../host/src/sys.rs"]
+mod sys;
 mod table;
 mod theirs;
 

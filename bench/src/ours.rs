@@ -1,8 +1,8 @@
 //! Our side, through the archive, as a host calls it.
 use std::hint::black_box;
 
-use crate::girdermoth as c;
 use crate::side::{Bytes, Chunk, Clockwork, FIRST_TSN, Freed, Side};
+use crate::sys as c;
 
 const BINARY: u32 = 53;
 const TIMED: u8 = 2;
@@ -35,11 +35,17 @@ impl Ours {
 
 fn chunk(f: c::Fragment) -> Option<Chunk> {
     assert!(f.refusal == 0);
-    f.some.then_some(Chunk { tsn: f.tsn, ssn: f.ssn, stream: f.stream, number: f.number, length: u64::from(f.length) })
+    (f.some != 0).then_some(Chunk {
+        tsn: f.tsn,
+        ssn: f.ssn,
+        stream: f.stream,
+        number: f.number,
+        length: u64::from(f.length),
+    })
 }
 
 fn freed(f: c::Freed) -> Option<Freed> {
-    f.some.then_some(Freed { stream: f.stream, bytes: f.bytes })
+    (f.some != 0).then_some(Freed { stream: f.stream, bytes: f.bytes })
 }
 
 impl Side for Ours {
@@ -47,7 +53,7 @@ impl Side for Ours {
     type Timers = OurTimers;
 
     fn fresh(payload: u32, lifetime: u32) -> Self {
-        let mut sender = c::Sender::blank();
+        let mut sender = Box::new(c::Sender::ZERO);
         c::girdermoth_init(&mut sender, FIRST_TSN, 0);
         for stream in 1..=2 {
             c::girdermoth_open_stream(&mut sender, stream, payload);
@@ -78,15 +84,13 @@ impl Side for Ours {
         chunk(c::girdermoth_pop(&mut self.sender, tsn))
     }
     fn release(&mut self, stream: u16, bytes: i64) -> bool {
-        c::girdermoth_release(&mut self.sender, stream, bytes).yes
+        c::girdermoth_release(&mut self.sender, stream, bytes).yes != 0
     }
     fn abandon(&mut self, tsn: u32) -> Option<Freed> {
         freed(c::girdermoth_abandon(&mut self.sender, tsn))
     }
     fn expired(&mut self, now: u64) -> usize {
-        let list = &mut self.list;
-        // SAFETY: the list is ours, of that length, and lies outside the sender.
-        let reply = unsafe { c::girdermoth_expired_inflight(&mut self.sender, list.as_mut_ptr(), list.len(), now) };
+        let reply = c::expired_inflight(&mut self.sender, &mut self.list, now);
         assert!(reply.refusal == 0);
         black_box(&self.list);
         reply.value as usize
@@ -145,11 +149,11 @@ impl Clockwork for OurTimers {
     fn is_expired(&mut self, timer: usize, now: u64) -> (bool, bool, u64) {
         let reply = c::girdermoth_timer_is_expired(self.timers, timer, now);
         self.keep(&reply);
-        (reply.expired, reply.failure, u64::from(reply.count))
+        (reply.expired != 0, reply.failure != 0, u64::from(reply.count))
     }
     fn next_timeout(&self) -> Option<u64> {
         let due = c::girdermoth_timers_next_timeout(self.timers);
-        due.yes.then_some(due.value)
+        (due.yes != 0).then_some(due.value)
     }
     fn milliseconds(&self, time: u64) -> u64 {
         time

@@ -3,6 +3,7 @@
 #include <stdio.h>
 #include <stdlib.h>
 #include <string.h>
+#include "leaf_calls.inc"
 
 static int bad = 0;
 static void want(int ok, const char *what) { if (!ok) { bad++; printf("WRONG: %s\n", what); } }
@@ -47,31 +48,18 @@ static void timers(void) {
     want(girdermoth_timer_start(t.timers, 0, GIRDERMOTH_CLOCK_MAX + 1, 0).refusal == GIRDERMOTH_BEYOND_LIMIT, "a clock beyond its limit");
 }
 
-static girdermoth_timers_reply ask(girdermoth_timers t, int call, size_t which, uint64_t a, uint64_t b) {
-    switch (call) {
-    case 0: return girdermoth_timer_set(t, which, a & 1, b);
-    case 1: return girdermoth_timer_start(t, which, a, b);
-    case 2: return girdermoth_timer_restart_if_stale(t, which, a, b);
-    case 3: return girdermoth_timer_stop(t, which);
-    case 4: return girdermoth_timer_reset_retrans(t, which);
-    case 5: return girdermoth_timer_suppress_error_count(t, which);
-    default: return girdermoth_timer_is_expired(t, which, a);
-    }
-}
-
 int main(int argc, char **argv) {
     long turns = argc > 1 ? atol(argv[1]) : 10000;
     estimates(); timers();
     for (long turn = 0; turn < turns; turn++) {
         girdermoth_rto r; garbage(&r, sizeof r);
         uint64_t rtt = rnd() >> (turn % 64), x = rnd() >> (rnd() % 64);
-        girdermoth_rto_reply a = turn % 3 == 0 ? girdermoth_rto_measure(r, rtt) : turn % 3 == 1 ? girdermoth_rto_reset(r) : girdermoth_rto_set(r, rtt, x & 1);
-        girdermoth_rto_reply b = turn % 3 == 0 ? girdermoth_rto_measure(r, rtt) : turn % 3 == 1 ? girdermoth_rto_reset(r) : girdermoth_rto_set(r, rtt, x & 1);
+        girdermoth_rto_reply a = change_rto(r, turn % CHANGES_OF_RTO, rtt, x), b = change_rto(r, turn % CHANGES_OF_RTO, rtt, x);
         want(memcmp(&a.rto, &b.rto, 49) == 0 && a.value == b.value && a.refusal == b.refusal, "garbage in an estimator");
         if (a.refusal) want(memcmp(&a.rto, &r, 49) == 0, "a refusal changed the estimator");
         girdermoth_timers t; garbage(&t, sizeof t);
-        size_t which = rnd() % 7; int call = turn % 7; if (turn % 2) rtt %= GIRDERMOTH_CLOCK_MAX;
-        girdermoth_timers_reply p = ask(t, call, which, rtt, x), q = ask(t, call, which, rtt, x);
+        size_t which = rnd() % 7; int call = turn % CHANGES_OF_TIMERS; if (turn % 2) rtt %= GIRDERMOTH_CLOCK_MAX;
+        girdermoth_timers_reply p = change_timers(t, call, which, rtt, x), q = change_timers(t, call, which, rtt, x);
         want(memcmp(&p.timers.entries[5], &q.timers.entries[5], 23) == 0 && p.count == q.count && p.refusal == q.refusal && p.expired == q.expired, "garbage in timers");
         for (size_t i = 0; i < 6; i++) if (i != which) want(p.timers.entries[i].retrans == t.entries[i].retrans && (p.timers.entries[i].deadline == t.entries[i].deadline || !t.entries[i].has_deadline), "another timer changed");
         girdermoth_timers_next_timeout(t); girdermoth_timer_get(t, which);

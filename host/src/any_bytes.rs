@@ -1,7 +1,8 @@
-//! Senders of any bytes: each call returns, answers the same twice, and writes nowhere but in what is lent to it. Under valgrind and ASan as well
-//! (host/check).
+//! Senders, timers and estimators of any bytes: each call returns, answers the same twice, and writes nowhere but in what is lent to it. Under
+//! valgrind and ASan as well (host/check).
 
-use crate::sys::*;
+use crate::any_calls::{CALLS, LEAF_CALLS, Told, call, leaf_call};
+use crate::sys::{Rto, Sender, Timers};
 
 /// A sender with words on both sides that no call may touch.
 #[repr(C)]
@@ -14,9 +15,6 @@ struct Fenced {
 
 const FENCE: u64 = 0x5AA5_F00D_5AA5_F00D;
 const LIST: [u32; 300] = [0xABCD_1234; 300];
-/// The first of `call` that only asks.
-const FIRST_QUESTION: usize = 16;
-const CALLS: usize = 32;
 
 struct Rng(u64);
 
@@ -39,110 +37,67 @@ impl Rng {
     }
 }
 
-/// A reply as numbers, the refusal first.
-trait Told {
-    fn told(self) -> Vec<u64>;
-}
-
-impl Told for Reply {
-    fn told(self) -> Vec<u64> {
-        vec![self.refusal.into(), self.value, self.yes.into()]
-    }
-}
-
-impl Told for Freed {
-    fn told(self) -> Vec<u64> {
-        vec![self.refusal.into(), self.number, self.bytes, self.stream.into(), self.some.into(), self.unordered.into()]
-    }
-}
-
-impl Told for Counts {
-    fn told(self) -> Vec<u64> {
-        vec![self.refusal.into(), self.messages, self.bytes]
-    }
-}
-
-impl Told for Fragment {
-    fn told(self) -> Vec<u64> {
-        let words = [self.number, self.offset, self.deadline, self.since];
-        let halves = [self.tsn, self.length, self.protocol, self.value, self.nsent, self.stream.into(), self.ssn.into()];
-        let flags =
-            [self.some, self.has_deadline, self.has_since, self.unordered, self.beginning, self.ending, self.acked, self.abandoned, self.retransmit];
-        assert!(flags.iter().all(|flag| *flag < 2), "the archive writes 0 or 1");
-        let mut told = vec![self.refusal.into(), self.kind.into()];
-        told.extend(words);
-        told.extend(halves.map(u64::from));
-        told.extend(flags.map(u64::from));
-        told
-    }
-}
-
-/// Each call of the header, by its place there.
-fn call(which: usize, s: &mut Sender, list: &mut [u32], [a, b, c, d]: [u64; 4]) -> Vec<u64> {
-    let (stream, tsn) = (a as u16, a as u32);
-    match which {
-        0 => girdermoth_init(s, tsn, b).told(),
-        1 => girdermoth_open_stream(s, stream, b as u32).told(),
-        2 => girdermoth_set_reliability(s, stream, b % 2 == 1, c as u8, d as u32).told(),
-        3 => girdermoth_set_low_threshold(s, stream, b).told(),
-        4 => girdermoth_set_high_threshold(s, stream, b).told(),
-        5 => girdermoth_release(s, stream, b as i64).told(),
-        6 => girdermoth_write(s, stream, b as u32, c, d).told(),
-        7 => girdermoth_start_lifetimes(s, a).told(),
-        8 => girdermoth_send(s, a).told(),
-        9 => girdermoth_expire_pending(s, a).told(),
-        10 => girdermoth_expire_pending_tail(s, a).told(),
-        11 => girdermoth_abandon(s, tsn).told(),
-        12 => girdermoth_acknowledge(s, tsn).told(),
-        13 => girdermoth_pop(s, tsn).told(),
-        14 => girdermoth_mark_all(s).told(),
-        15 => expired_inflight(s, list, a).told(),
-        16 => girdermoth_get(s, tsn).told(),
-        17 => girdermoth_is_abandoned(s, tsn).told(),
-        18 => girdermoth_peek_pending(s).told(),
-        19 => girdermoth_next_message(s).told(),
-        20 => girdermoth_next_tsn(s).told(),
-        21 => girdermoth_pending_length(s).told(),
-        22 => girdermoth_pending_bytes(s).told(),
-        23 => girdermoth_inflight_length(s).told(),
-        24 => girdermoth_inflight_bytes(s).told(),
-        25 => girdermoth_earliest_outstanding(s).told(),
-        26 => girdermoth_pending_contains_stream(s, stream).told(),
-        27 => girdermoth_contains_stream(s, stream).told(),
-        28 => girdermoth_buffered_amount(s, stream).told(),
-        29 => girdermoth_low_threshold(s, stream).told(),
-        30 => girdermoth_high_threshold(s, stream).told(),
-        31 => girdermoth_statistics(s, stream).told(),
-        _ => unreachable!("there are {CALLS} calls"),
-    }
-}
-
 #[test]
 fn any_bytes_are_a_sender() {
     let mut rng = Rng(0x9E37_79B9_7F4A_7C15);
     let mut refused = 0;
     for round in 0..120 {
-        let words = |rng: &mut Rng| if round % 2 == 0 { rng.word() } else { rng.number() };
-        let start = Box::new(Fenced { before: [FENCE; 8], sender: Sender::of(|| words(&mut rng)), after: [FENCE; 8] });
-        for which in 0..CALLS {
+        let mut words = || if round % 2 == 0 { rng.word() } else { rng.number() };
+        let start = Box::new(Fenced { before: [FENCE; 8], sender: Sender::of(&mut words), after: [FENCE; 8] });
+        for (which, (name, asks)) in CALLS.into_iter().enumerate() {
             let numbers = [rng.number(), rng.number(), rng.number(), rng.number()];
             let room = (rng.number() % 301) as usize;
             let (mut one, mut other) = (start.clone(), start.clone());
             let (mut list, mut same_list) = (LIST, LIST);
             let told = call(which, &mut one.sender, &mut list[..room], numbers);
-            assert_eq!(told, call(which, &mut other.sender, &mut same_list[..room], numbers), "call {which} answers otherwise the second time");
-            assert!(one.sender == other.sender && list == same_list, "call {which} does otherwise the second time");
-            assert!(one.before == [FENCE; 8] && one.after == [FENCE; 8], "call {which} writes beside the sender");
-            let listed = if which == 15 && told[0] == 0 { told[1] as usize } else { 0 };
-            assert!(listed <= room && list[listed..] == LIST[listed..], "call {which} writes behind the list");
-            if which >= FIRST_QUESTION {
-                assert!(one.sender == start.sender, "question {which} changes the sender");
+            assert_eq!(told, call(which, &mut other.sender, &mut same_list[..room], numbers), "{name} answers otherwise the second time");
+            assert!(one.sender == other.sender && list == same_list, "{name} does otherwise the second time");
+            assert!(one.before == [FENCE; 8] && one.after == [FENCE; 8], "{name} writes beside the sender");
+            let listed = if name == "girdermoth_expired_inflight" && told[0] == 0 { told[1] as usize } else { 0 };
+            assert!(listed <= room && list[listed..] == LIST[listed..], "{name} writes behind the list");
+            if asks {
+                assert!(one.sender == start.sender, "the question {name} changes the sender");
             } else if told[0] > 0 {
-                assert!(told[0] <= 12 && told[1..].iter().all(|number| *number == 0), "call {which} answers {told:?}");
-                assert!(one.sender.means_the_same(&start.sender), "call {which} is refused and changes the sender");
+                assert!(told[0] <= 12 && told[1..].iter().all(|number| *number == 0), "{name} answers {told:?}");
+                assert!(one.sender.means_the_same(&start.sender), "{name} is refused and changes the sender");
                 refused += 1;
             }
         }
     }
     assert!(refused > 120, "few are refused: {refused}");
+}
+
+/// Timers that mean the same: a flag is 0 or 1, and what no flag tells is 0.
+fn plain(mut timers: Timers) -> Timers {
+    for entry in &mut timers.entries {
+        entry.has_deadline = (entry.has_deadline != 0).into();
+        entry.has_maximum = (entry.has_maximum != 0).into();
+        entry.suppressed = (entry.suppressed != 0).into();
+        entry.deadline *= u64::from(entry.has_deadline);
+        entry.maximum *= u64::from(entry.has_maximum);
+    }
+    timers
+}
+
+#[test]
+fn any_numbers_are_timers_and_an_estimator() {
+    let mut rng = Rng(0x2545_F491_4F6C_DD1D);
+    let mut refused = 0;
+    for round in 0..400 {
+        let mut words = || if round % 2 == 0 { rng.word() } else { rng.number() };
+        let (timers, rto) = (Timers::of(&mut words), Rto::of(&mut words));
+        for (which, name) in LEAF_CALLS.into_iter().enumerate() {
+            let numbers = [rng.number(), rng.number(), rng.number(), rng.number(), rng.number()];
+            let told = leaf_call(which, timers, rto, numbers);
+            assert_eq!(told, leaf_call(which, timers, rto, numbers), "{name} answers otherwise the second time");
+            // but the one reply that is a number alone
+            if told.len() > 1 && told[0] > 0 {
+                let behind = |given: Vec<u64>| told[1..].strip_prefix(&given[..]);
+                let rest = behind(timers.told()).or_else(|| behind(plain(timers).told())).or_else(|| behind(rto.told())).unwrap_or(&told[1..]);
+                assert!(told[0] <= 12 && rest.iter().all(|number| *number == 0), "{name} is refused, and answers {told:?} of {timers:?} and {rto:?}");
+                refused += 1;
+            }
+        }
+    }
+    assert!(refused > 400, "few are refused: {refused}");
 }

@@ -36,6 +36,8 @@
 
 #[cfg(test)]
 mod any_bytes;
+#[cfg(test)]
+mod any_calls;
 mod chunk;
 mod refusal;
 mod rto;

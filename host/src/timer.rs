@@ -138,7 +138,7 @@ mod tests {
     fn a_full_count_is_refused_and_a_suppressed_expiry_is_not() {
         let mut t = TimerTable::default();
         t.set(Timer::T3RTX, Some(10)).unwrap();
-        t.0.t3_rtx.retrans = u32::MAX - 1;
+        t.0.entries[Timer::T3RTX as usize].retrans = u32::MAX - 1;
         assert_eq!(t.is_expired(Timer::T3RTX, 10), Ok(Expiry { expired: true, failure: false, count: u32::MAX }));
         let full = t;
         assert_eq!(t.is_expired(Timer::T3RTX, 10), Err(Refusal::CountFull));

@@ -1,4 +1,5 @@
 //! Runs of random calls: what the questions answer must agree, whatever came before, and a refused call changes none of their answers.
+//! `GIRDERMOTH_SHARE=10` runs a tenth of the runs, for the slow ones of host/check; what they must reach is asserted of the whole.
 
 use std::collections::BTreeMap;
 
@@ -51,9 +52,10 @@ fn agrees(s: &Sender, oldest: u32) {
 
 #[test]
 fn whatever_is_called_the_answers_agree() {
+    let share = std::env::var("GIRDERMOTH_SHARE").map_or(1, |share| share.parse().expect("GIRDERMOTH_SHARE is a number"));
     let mut refused = [0; 13];
     let (mut terminators, mut steps) = (0, 0);
-    for seed in 1..=24u64 {
+    for seed in 1..=24u64.div_ceil(share) {
         let mut rng = Rng(seed.wrapping_mul(0x9E37_79B9_7F4A_7C15));
         let mut oldest = u32::MAX - rng.below(300) as u32;
         let mut s = Sender::new(oldest, u64::MAX - 1 - rng.below(400));
@@ -109,6 +111,9 @@ fn whatever_is_called_the_answers_agree() {
         }
     }
     println!("{steps} calls, {terminators} terminators, refused by number {refused:?}");
+    if share > 1 {
+        return;
+    }
     assert!(terminators > 100);
     assert!([1, 2, 3, 4, 6, 8, 9, 10, 11].iter().all(|number| refused[*number] > 0), "{refused:?}");
 }

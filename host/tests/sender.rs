@@ -258,12 +258,42 @@ fn buffered_amounts_and_their_thresholds() {
 
 #[test]
 fn statistics_count_by_type() {
+    let counted = |ppi| {
+        let mut s = timed(0);
+        s.write(1, ppi, 0, 10).unwrap();
+        s.stats(1).map(|stats| (stats.messages_sent, stats.bytes_sent))
+    };
+    assert_eq!(counted(PayloadProtocolIdentifier::DCEP), Ok((0, 0)));
+    assert_eq!(counted(PayloadProtocolIdentifier::STRING), Ok((1, 10)));
+    assert_eq!(counted(PayloadProtocolIdentifier::BINARY), Ok((1, 10)));
+    assert_eq!(counted(PayloadProtocolIdentifier::STRING_EMPTY), Ok((1, 0)));
+    assert_eq!(counted(PayloadProtocolIdentifier::BINARY_EMPTY), Ok((1, 0)));
     let mut s = timed(0);
-    for ppi in [50, 51, 53, 56, 57, 99] {
+    for ppi in 0..100 {
         s.write(1, PayloadProtocolIdentifier(ppi), 0, 10).unwrap();
     }
     s.write(1, BINARY, 0, 0).unwrap();
     assert_eq!(s.stats(1), Ok(DataChannelStats { messages_sent: 4, bytes_sent: 20 }));
+}
+
+/// Pending, half sent and in flight: only a `Timed` message expires.
+#[test]
+fn only_timed_messages_expire() {
+    for kind in [ReliabilityType::Reliable, ReliabilityType::Rexmit, ReliabilityType::Timed] {
+        let expires = kind == ReliabilityType::Timed;
+        let mut s = timed(0);
+        s.set_reliability_params(1, false, kind, 50).unwrap();
+        s.write(1, BINARY, 0, 10).unwrap();
+        s.start_timed_messages(1_000).unwrap();
+        assert_eq!(s.peek_pending().unwrap().deadline, expires.then_some(1_050), "{kind}");
+        assert_eq!(s.expire_pending(1_050).unwrap().is_some(), expires, "{kind}");
+        while s.send_next(1_050).unwrap().is_some() {}
+        s.write(1, BINARY, 0, 1_300).unwrap();
+        let first = s.send_next(2_000).unwrap().unwrap();
+        assert_eq!((first.reliability, first.deadline), ((kind, 50), expires.then_some(2_050)));
+        assert_eq!(s.expired_inflight(2_050, &mut [0; 4]).unwrap().len(), usize::from(expires), "{kind}");
+        assert_eq!(s.expire_pending_tail(2_050).unwrap().is_some(), expires, "{kind}");
+    }
 }
 
 #[test]

@@ -229,10 +229,12 @@ fn main() -> Result<(), Box<dyn Error>> {
 mod tests {
     use super::*;
 
-    /// What is checked holds of any session, not of the one that is shown.
+    /// What is checked holds of any session, not of the one that is shown. `GIRDERMOTH_SHARE=10` runs a tenth of them, for the slow runs of
+    /// host/check.
     #[test]
     fn other_sessions() {
-        for seed in 0..30 {
+        let share = std::env::var("GIRDERMOTH_SHARE").map_or(1, |share| share.parse().expect("GIRDERMOTH_SHARE is a number"));
+        for seed in 0..30u64.div_ceil(share) {
             let mut session = run(seed).unwrap();
             check(&mut session);
             assert!(chart::draw(&session).ends_with("</svg>\n"));

@@ -1,0 +1,185 @@
+// What each name of the header means, by calls: every refusal is reached under its name, the kinds of reliability and the payload types do what is
+// said of them, each timer is the one of its place, and every field and parameter is told apart from its neighbours.
+#include "girdermoth.h"
+#include <stdio.h>
+
+static int bad = 0;
+#define WANT(ok) do { if (!(ok)) { bad++; printf("WRONG, line %d: %s\n", __LINE__, #ok); } } while (0)
+
+static girdermoth_sender s;
+
+// A fresh sender with one stream that has payloads of up to 100 bytes.
+static void fresh(bool unordered, uint8_t kind, uint32_t value) {
+    girdermoth_init(&s, 7000, 8000);
+    WANT(girdermoth_open_stream(&s, 21, 100).refusal == GIRDERMOTH_DONE);
+    WANT(girdermoth_set_reliability(&s, 21, unordered, kind, value).refusal == GIRDERMOTH_DONE);
+}
+
+// Only TIMED gives a lifetime: a message wholly unsent, one half sent, and one in flight.
+static void kinds(void) {
+    const uint8_t kind[] = {GIRDERMOTH_RELIABLE, GIRDERMOTH_REXMIT, GIRDERMOTH_TIMED, 3, 255};
+    for (int i = 0; i < 5; i++) {
+        bool timed = kind[i] == GIRDERMOTH_TIMED;
+        uint32_t list[4];
+        fresh(false, kind[i], 50);
+        girdermoth_write(&s, 21, 53, 0, 10);
+        girdermoth_start_lifetimes(&s, 1000);
+        WANT(girdermoth_peek_pending(&s).has_deadline == timed && girdermoth_peek_pending(&s).kind == kind[i]);
+        WANT(!girdermoth_expire_pending(&s, 1049).some);
+        WANT(girdermoth_expire_pending(&s, 1050).some == timed);
+        girdermoth_write(&s, 21, 53, 0, 250);
+        for (int k = timed ? 1 : 0; k < 2; k++) girdermoth_send(&s, 2000);
+        WANT(girdermoth_expired_inflight(&s, list, 4, 2049).value == 0);
+        WANT(girdermoth_expired_inflight(&s, list, 4, 2050).value == (timed ? 1u : 0u));
+        WANT(girdermoth_expire_pending_tail(&s, 2050).some == timed);
+    }
+    WANT(GIRDERMOTH_TIMED != GIRDERMOTH_REXMIT && GIRDERMOTH_REXMIT != GIRDERMOTH_RELIABLE && GIRDERMOTH_RELIABLE != GIRDERMOTH_TIMED);
+    girdermoth_init(&s, 0, 0);
+    girdermoth_open_stream(&s, 21, 100);
+    girdermoth_write(&s, 21, 53, 0, 1);
+    WANT(girdermoth_peek_pending(&s).kind == GIRDERMOTH_RELIABLE);
+}
+
+// 50 is ordered, lives for ever and is not counted; 51 and 53 count bytes; 56 and 57 count a message of 0 bytes; no other counts.
+static void payload_types(void) {
+    for (uint32_t protocol = 0; protocol < 70; protocol++) {
+        fresh(true, GIRDERMOTH_TIMED, 1);
+        girdermoth_write(&s, 21, protocol, 0, 10);
+        girdermoth_counts n = girdermoth_statistics(&s, 21);
+        bool bytes = protocol == 51 || protocol == 53, empty = protocol == 56 || protocol == 57;
+        WANT(n.messages == (bytes || empty) && n.bytes == (bytes ? 10u : 0u));
+        girdermoth_fragment sent = girdermoth_send(&s, 0);
+        WANT(sent.protocol == protocol && sent.unordered == (protocol != 50) && sent.has_deadline == (protocol != 50));
+    }
+}
+
+// Every field of a fragment, each another number.
+static void fragments(void) {
+    fresh(true, GIRDERMOTH_TIMED, 300);
+    girdermoth_set_reliability(&s, 21, false, GIRDERMOTH_TIMED, 300);
+    girdermoth_write(&s, 21, 51, 0, 0);
+    girdermoth_write(&s, 21, 51, 0, 0);
+    WANT(girdermoth_write(&s, 21, 51, 5000, 130).refusal == GIRDERMOTH_DONE);
+    girdermoth_fragment c = girdermoth_peek_pending(&s);
+    WANT(c.some && c.tsn == 0 && c.number == 8000 && c.offset == 5000 && c.length == 100 && c.nsent == 0 && !c.has_since && c.since == 0);
+    WANT(!c.has_deadline && c.deadline == 0);
+    c = girdermoth_send(&s, 40);
+    WANT(c.some && c.refusal == 0 && c.tsn == 7000 && c.number == 8000 && c.offset == 5000 && c.length == 100 && c.protocol == 51 && c.value == 300);
+    WANT(c.nsent == 1 && c.stream == 21 && c.ssn == 2 && c.kind == GIRDERMOTH_TIMED && c.has_deadline && c.deadline == 340 && c.has_since && c.since == 40);
+    WANT(!c.unordered && c.beginning && !c.ending && !c.acked && !c.abandoned && !c.retransmit);
+    c = girdermoth_send(&s, 41);
+    WANT(c.tsn == 7001 && c.offset == 5100 && c.length == 30 && !c.beginning && c.ending);
+    girdermoth_mark_all(&s);
+    c = girdermoth_get(&s, 7001);
+    WANT(c.some && c.retransmit && !c.acked && !c.abandoned);
+    WANT(girdermoth_acknowledge(&s, 7001).value == 30);
+    c = girdermoth_get(&s, 7001);
+    WANT(c.acked && !c.abandoned && !c.retransmit && c.length == 0 && c.offset == 5100);
+    girdermoth_freed freed = girdermoth_abandon(&s, 7000);
+    WANT(freed.some && freed.bytes == 100 && freed.stream == 21 && freed.number == 0 && freed.refusal == 0 && !freed.unordered);
+    c = girdermoth_get(&s, 7000);
+    WANT(!c.acked && c.abandoned && !c.retransmit);
+    WANT(girdermoth_is_abandoned(&s, 7000).yes && !girdermoth_is_abandoned(&s, 7002).yes);
+    c = girdermoth_pop(&s, 7000);
+    WANT(c.some && c.tsn == 7000 && c.abandoned);
+    WANT(!girdermoth_pop(&s, 7000).some);
+    // what expires: number and unordered are told by one call each
+    fresh(true, GIRDERMOTH_TIMED, 5);
+    girdermoth_write(&s, 21, 53, 0, 10);
+    girdermoth_start_lifetimes(&s, 0);
+    freed = girdermoth_expire_pending(&s, 5);
+    WANT(freed.some && freed.unordered && freed.bytes == 10 && freed.stream == 21 && freed.number == 0);
+    girdermoth_write(&s, 21, 53, 0, 150);
+    girdermoth_send(&s, 10);
+    freed = girdermoth_expire_pending_tail(&s, 15);
+    WANT(freed.some && !freed.unordered && freed.bytes == 150 && freed.stream == 21 && freed.number == 8001);
+}
+
+// Numbers that questions answer, each another; thresholds and amounts.
+static void questions(void) {
+    fresh(false, GIRDERMOTH_RELIABLE, 0);
+    girdermoth_write(&s, 21, 53, 0, 250);
+    girdermoth_write(&s, 21, 57, 0, 1);
+    girdermoth_send(&s, 0);
+    WANT(girdermoth_next_message(&s).value == 8002 && girdermoth_next_tsn(&s).value == 7001);
+    WANT(girdermoth_pending_length(&s).value == 3 && girdermoth_pending_bytes(&s).value == 151);
+    WANT(girdermoth_inflight_length(&s).value == 1 && girdermoth_inflight_bytes(&s).value == 100);
+    WANT(girdermoth_earliest_outstanding(&s).yes && girdermoth_earliest_outstanding(&s).value == 7000);
+    WANT(girdermoth_statistics(&s, 21).messages == 2 && girdermoth_statistics(&s, 21).bytes == 250);
+    girdermoth_set_low_threshold(&s, 21, 200);
+    girdermoth_set_high_threshold(&s, 21, 260);
+    WANT(girdermoth_low_threshold(&s, 21).value == 200 && girdermoth_high_threshold(&s, 21).value == 260 && girdermoth_buffered_amount(&s, 21).value == 251);
+    WANT(girdermoth_write(&s, 21, 53, 0, 9).yes && girdermoth_release(&s, 21, 60).yes && !girdermoth_release(&s, 21, 1).yes);
+    girdermoth_open_stream(&s, 22, 1);
+    WANT(girdermoth_pending_contains_stream(&s, 21).yes && girdermoth_contains_stream(&s, 21).yes && !girdermoth_contains_stream(&s, 22).yes);
+    while (girdermoth_send(&s, 0).some) {}
+    WANT(!girdermoth_pending_contains_stream(&s, 21).yes && girdermoth_contains_stream(&s, 21).yes);
+}
+
+// Each refusal under its name, but BUFFER_FULL, which stray.c reaches with 65,536 writes.
+static void refusals(void) {
+    uint32_t list[1];
+    fresh(false, GIRDERMOTH_TIMED, 0);
+    WANT(girdermoth_write(&s, 21, 53, UINT64_C(4294967296), 1).refusal == GIRDERMOTH_BEYOND_LIMIT);
+    WANT(girdermoth_write(&s, 21, 53, UINT64_C(4294967295), 1).refusal == GIRDERMOTH_DONE);
+    WANT(girdermoth_send(&s, GIRDERMOTH_CLOCK_MAX + 1).refusal == GIRDERMOTH_BEYOND_LIMIT && girdermoth_send(&s, GIRDERMOTH_CLOCK_MAX).some);
+    WANT(girdermoth_open_stream(&s, 22, 0).refusal == GIRDERMOTH_BAD_BOUNDS && girdermoth_open_stream(&s, 22, 65516).refusal == GIRDERMOTH_BAD_BOUNDS);
+    WANT(girdermoth_open_stream(&s, 21, 1).refusal == GIRDERMOTH_ALREADY_OPEN && girdermoth_buffered_amount(&s, 22).refusal == GIRDERMOTH_NOT_OPEN);
+    for (uint16_t id = 100; id < 163; id++) WANT(girdermoth_open_stream(&s, id, 65515).refusal == GIRDERMOTH_DONE);
+    WANT(girdermoth_open_stream(&s, 99, 1).refusal == GIRDERMOTH_STREAMS_FULL);
+    WANT(girdermoth_write(&s, 21, 53, 0, 65537).refusal == GIRDERMOTH_MESSAGE_LONG && girdermoth_write(&s, 21, 53, 0, 25601).refusal == GIRDERMOTH_RING_FULL);
+    WANT(girdermoth_expired_inflight(&s, list, 0, GIRDERMOTH_CLOCK_MAX).refusal == GIRDERMOTH_LIST_SHORT);
+    WANT(girdermoth_expired_inflight(&s, list, 1, GIRDERMOTH_CLOCK_MAX).value == 1 && list[0] == 7000);
+    WANT(girdermoth_write(&s, 21, 53, 0, 25600).refusal == GIRDERMOTH_DONE);
+    for (int i = 0; i < 254; i++) WANT(girdermoth_send(&s, 0).some);
+    WANT(girdermoth_send(&s, 0).refusal == GIRDERMOTH_FLIGHT_FULL);
+    girdermoth_init(&s, 0, UINT64_MAX);
+    girdermoth_open_stream(&s, 21, 1);
+    WANT(girdermoth_write(&s, 21, 53, 0, 1).refusal == GIRDERMOTH_NUMBERS_SPENT && girdermoth_write(&s, 21, 53, 0, 0).refusal == GIRDERMOTH_DONE);
+}
+
+// The timers of init fail above 2, that of data above 1, the two others never; all but ACK wait at most rto_max; each has its own entry.
+static void timers(void) {
+    const size_t place[] = {GIRDERMOTH_T1_INIT, GIRDERMOTH_T1_COOKIE, GIRDERMOTH_T2_SHUTDOWN, GIRDERMOTH_T3_RTX, GIRDERMOTH_RECONFIG, GIRDERMOTH_ACK};
+    const unsigned most[] = {2, 2, 0, 1, 2, 0};
+    girdermoth_timers made = girdermoth_timers_new(true, 2, true, 1, 700).timers;
+    WANT(made.rto_max == 700);
+    for (int i = 0; i < 6; i++) {
+        girdermoth_timers_reply t = girdermoth_timer_start(made, place[i], 1000, 900);
+        uint64_t due = place[i] == GIRDERMOTH_ACK ? 1900 : 1700;
+        const girdermoth_timer *entry = &t.timers.entries[place[i]];
+        WANT(t.refusal == 0 && girdermoth_timer_get(t.timers, place[i]).value == due && girdermoth_timers_next_timeout(t.timers).value == due);
+        WANT(entry->has_deadline && entry->deadline == due && entry->has_maximum == (most[i] > 0) && entry->maximum == most[i] && !entry->suppressed);
+        WANT(!girdermoth_timer_is_expired(t.timers, place[i], due - 1).expired);
+        for (unsigned n = 1; n < 5; n++) {
+            t = girdermoth_timer_is_expired(t.timers, place[i], due);
+            WANT(t.expired && t.count == n && t.failure == (most[i] > 0 && n > most[i]) && t.timers.entries[place[i]].retrans == n);
+        }
+        t = girdermoth_timer_suppress_error_count(t.timers, place[i]);
+        WANT(t.timers.entries[place[i]].suppressed);
+        for (int other = 0; other < 6; other++) WANT(other == i || !girdermoth_timer_get(t.timers, place[other]).yes);
+        t.timers.entries[place[i]].retrans = UINT32_MAX;
+        t.timers.entries[place[i]].suppressed = 0;
+        WANT(girdermoth_timer_is_expired(t.timers, place[i], due).refusal == GIRDERMOTH_COUNT_FULL);
+    }
+    WANT(girdermoth_timer_get(made, 6).refusal == GIRDERMOTH_BEYOND_LIMIT);
+    WANT(girdermoth_timer_set(made, GIRDERMOTH_ACK, true, GIRDERMOTH_CLOCK_MAX + 1).refusal == GIRDERMOTH_BEYOND_LIMIT);
+    WANT(girdermoth_timer_get(girdermoth_timer_set(made, GIRDERMOTH_ACK, true, GIRDERMOTH_CLOCK_MAX).timers, GIRDERMOTH_ACK).value == GIRDERMOTH_CLOCK_MAX);
+}
+
+// Every field of an estimator, each another number.
+static void estimator(void) {
+    girdermoth_rto_reply r = girdermoth_rto_new(3000, 1000, 60000);
+    WANT(r.rto.rto == 3000 && r.rto.rto_initial == 3000 && r.rto.rto_min == 1000 && r.rto.rto_max == 60000 && r.rto.srtt == 0 && r.rto.rttvar == 0 && !r.rto.no_update);
+    r = girdermoth_rto_measure(r.rto, 600);
+    WANT(r.value == 600 && r.rto.srtt == 600 && r.rto.rttvar == 300 && r.rto.rto == 1800 && girdermoth_rto_get(r.rto) == 1800);
+    r = girdermoth_rto_set(r.rto, 70000, true);
+    WANT(r.rto.no_update == 1 && r.rto.rto == 70000 && r.rto.srtt == 600);
+    WANT(girdermoth_rto_new(0, 2, 1).refusal == GIRDERMOTH_BAD_BOUNDS && girdermoth_rto_new(0, 2, UINT64_C(4294967296)).refusal == GIRDERMOTH_BEYOND_LIMIT);
+}
+
+int main(void) {
+    kinds(); payload_types(); fragments(); questions(); refusals(); timers(); estimator();
+    printf("meanings: %d wrong\n", bad);
+    return bad != 0;
+}

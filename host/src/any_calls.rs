@@ -1,0 +1,315 @@
+//! Every call of the header by its place there, for tests on any bytes at all.
+//! Made from include/girdermoth.h by tools/bindings, and not edited by hand.
+
+use crate::sys::*;
+
+/// Every field as a number, in the order of the header, but the refusal first.
+pub(crate) trait Told {
+    fn tell(&self, told: &mut Vec<u64>);
+    fn told(&self) -> Vec<u64> {
+        let mut told = Vec::new();
+        self.tell(&mut told);
+        told
+    }
+}
+
+/// A `bool` of the header.
+fn flag(byte: u8) -> u64 {
+    assert!(byte < 2, "the archive writes 0 or 1");
+    byte.into()
+}
+
+impl Told for u64 {
+    fn tell(&self, told: &mut Vec<u64>) {
+        told.push(*self);
+    }
+}
+
+impl Told for Reply {
+    fn tell(&self, told: &mut Vec<u64>) {
+        told.push(self.refusal.into());
+        told.push(self.value);
+        told.push(flag(self.yes));
+    }
+}
+
+impl Told for Freed {
+    fn tell(&self, told: &mut Vec<u64>) {
+        told.push(self.refusal.into());
+        told.push(self.number);
+        told.push(self.bytes);
+        told.push(self.stream.into());
+        told.push(flag(self.some));
+        told.push(flag(self.unordered));
+    }
+}
+
+impl Told for Fragment {
+    fn tell(&self, told: &mut Vec<u64>) {
+        told.push(self.refusal.into());
+        told.push(self.number);
+        told.push(self.offset);
+        told.push(self.deadline);
+        told.push(self.since);
+        told.push(self.tsn.into());
+        told.push(self.length.into());
+        told.push(self.protocol.into());
+        told.push(self.value.into());
+        told.push(self.nsent.into());
+        told.push(self.stream.into());
+        told.push(self.ssn.into());
+        told.push(self.kind.into());
+        told.push(flag(self.some));
+        told.push(flag(self.has_deadline));
+        told.push(flag(self.has_since));
+        told.push(flag(self.unordered));
+        told.push(flag(self.beginning));
+        told.push(flag(self.ending));
+        told.push(flag(self.acked));
+        told.push(flag(self.abandoned));
+        told.push(flag(self.retransmit));
+    }
+}
+
+impl Told for Counts {
+    fn tell(&self, told: &mut Vec<u64>) {
+        told.push(self.refusal.into());
+        told.push(self.messages);
+        told.push(self.bytes);
+    }
+}
+
+impl Told for Rto {
+    fn tell(&self, told: &mut Vec<u64>) {
+        told.push(self.rttvar.to_bits());
+        told.push(self.srtt);
+        told.push(self.rto);
+        told.push(self.rto_initial);
+        told.push(self.rto_min);
+        told.push(self.rto_max);
+        told.push(self.no_update.into());
+    }
+}
+
+impl Told for RtoReply {
+    fn tell(&self, told: &mut Vec<u64>) {
+        told.push(self.refusal.into());
+        self.rto.tell(told);
+        told.push(self.value);
+    }
+}
+
+impl Told for Timer {
+    fn tell(&self, told: &mut Vec<u64>) {
+        told.push(self.deadline);
+        told.push(self.maximum);
+        told.push(self.retrans.into());
+        told.push(self.has_deadline.into());
+        told.push(self.has_maximum.into());
+        told.push(self.suppressed.into());
+    }
+}
+
+impl Told for Timers {
+    fn tell(&self, told: &mut Vec<u64>) {
+        self.entries.iter().for_each(|part| part.tell(told));
+        told.push(self.rto_max.into());
+    }
+}
+
+impl Told for TimersReply {
+    fn tell(&self, told: &mut Vec<u64>) {
+        told.push(self.refusal.into());
+        self.timers.tell(told);
+        told.push(self.count.into());
+        told.push(flag(self.expired));
+        told.push(flag(self.failure));
+    }
+}
+
+impl Head {
+    /// Of any words.
+    pub(crate) fn of(word: &mut impl FnMut() -> u64) -> Self {
+        Self {
+            unordered_start: word(),
+            unordered_len: word(),
+            ordered_start: word(),
+            ordered_len: word(),
+            pending_bytes: word(),
+            selected: word() as u8,
+            unordered_is_selected: word() as u8,
+            flight_start: word(),
+            flight_len: word(),
+            oldest: word() as u32,
+            flight_bytes: word(),
+            next_message: word(),
+            next_unstarted: word(),
+            streams: word(),
+        }
+    }
+}
+
+impl Sender {
+    /// Of any words.
+    pub(crate) fn of(word: &mut impl FnMut() -> u64) -> Self {
+        Self { head: Head::of(word), cells: std::array::from_fn(|_| word()) }
+    }
+    /// A byte of the head is a flag, and any but 0 is yes.
+    pub(crate) fn means_the_same(&self, other: &Sender) -> bool {
+        let plain = |byte: u8| u8::from(byte != 0);
+        let head = |head: Head| Head { selected: plain(head.selected), unordered_is_selected: plain(head.unordered_is_selected), ..head };
+        self.cells == other.cells && head(self.head) == head(other.head)
+    }
+}
+
+impl Rto {
+    /// Of any words.
+    pub(crate) fn of(word: &mut impl FnMut() -> u64) -> Self {
+        Self {
+            rttvar: f64::from_bits(word()),
+            srtt: word(),
+            rto: word(),
+            rto_initial: word(),
+            rto_min: word(),
+            rto_max: word(),
+            no_update: word() as u8,
+        }
+    }
+}
+
+impl Timer {
+    /// Of any words.
+    pub(crate) fn of(word: &mut impl FnMut() -> u64) -> Self {
+        Self {
+            deadline: word(),
+            maximum: word(),
+            retrans: word() as u32,
+            has_deadline: word() as u8,
+            has_maximum: word() as u8,
+            suppressed: word() as u8,
+        }
+    }
+}
+
+impl Timers {
+    /// Of any words.
+    pub(crate) fn of(word: &mut impl FnMut() -> u64) -> Self {
+        Self { entries: std::array::from_fn(|_| Timer::of(word)), rto_max: word() as u32 }
+    }
+}
+
+/// The calls on a sender: the name, and whether it only asks.
+pub(crate) const CALLS: [(&str, bool); 32] = [
+    ("girdermoth_init", false),
+    ("girdermoth_open_stream", false),
+    ("girdermoth_set_reliability", false),
+    ("girdermoth_set_low_threshold", false),
+    ("girdermoth_set_high_threshold", false),
+    ("girdermoth_release", false),
+    ("girdermoth_write", false),
+    ("girdermoth_start_lifetimes", false),
+    ("girdermoth_send", false),
+    ("girdermoth_expire_pending", false),
+    ("girdermoth_expire_pending_tail", false),
+    ("girdermoth_abandon", false),
+    ("girdermoth_acknowledge", false),
+    ("girdermoth_pop", false),
+    ("girdermoth_mark_all", false),
+    ("girdermoth_expired_inflight", false),
+    ("girdermoth_get", true),
+    ("girdermoth_is_abandoned", true),
+    ("girdermoth_peek_pending", true),
+    ("girdermoth_next_message", true),
+    ("girdermoth_next_tsn", true),
+    ("girdermoth_pending_length", true),
+    ("girdermoth_pending_bytes", true),
+    ("girdermoth_inflight_length", true),
+    ("girdermoth_inflight_bytes", true),
+    ("girdermoth_earliest_outstanding", true),
+    ("girdermoth_pending_contains_stream", true),
+    ("girdermoth_contains_stream", true),
+    ("girdermoth_buffered_amount", true),
+    ("girdermoth_low_threshold", true),
+    ("girdermoth_high_threshold", true),
+    ("girdermoth_statistics", true),
+];
+
+/// A call on a sender, with a list that is lent and any numbers.
+pub(crate) fn call(which: usize, s: &mut Sender, list: &mut [u32], [a, b, c, d]: [u64; 4]) -> Vec<u64> {
+    match which {
+        0 => girdermoth_init(s, a as u32, b).told(),
+        1 => girdermoth_open_stream(s, a as u16, b as u32).told(),
+        2 => girdermoth_set_reliability(s, a as u16, b % 2 == 1, c as u8, d as u32).told(),
+        3 => girdermoth_set_low_threshold(s, a as u16, b).told(),
+        4 => girdermoth_set_high_threshold(s, a as u16, b).told(),
+        5 => girdermoth_release(s, a as u16, b as i64).told(),
+        6 => girdermoth_write(s, a as u16, b as u32, c, d).told(),
+        7 => girdermoth_start_lifetimes(s, a).told(),
+        8 => girdermoth_send(s, a).told(),
+        9 => girdermoth_expire_pending(s, a).told(),
+        10 => girdermoth_expire_pending_tail(s, a).told(),
+        11 => girdermoth_abandon(s, a as u32).told(),
+        12 => girdermoth_acknowledge(s, a as u32).told(),
+        13 => girdermoth_pop(s, a as u32).told(),
+        14 => girdermoth_mark_all(s).told(),
+        15 => expired_inflight(s, list, a).told(),
+        16 => girdermoth_get(s, a as u32).told(),
+        17 => girdermoth_is_abandoned(s, a as u32).told(),
+        18 => girdermoth_peek_pending(s).told(),
+        19 => girdermoth_next_message(s).told(),
+        20 => girdermoth_next_tsn(s).told(),
+        21 => girdermoth_pending_length(s).told(),
+        22 => girdermoth_pending_bytes(s).told(),
+        23 => girdermoth_inflight_length(s).told(),
+        24 => girdermoth_inflight_bytes(s).told(),
+        25 => girdermoth_earliest_outstanding(s).told(),
+        26 => girdermoth_pending_contains_stream(s, a as u16).told(),
+        27 => girdermoth_contains_stream(s, a as u16).told(),
+        28 => girdermoth_buffered_amount(s, a as u16).told(),
+        29 => girdermoth_low_threshold(s, a as u16).told(),
+        30 => girdermoth_high_threshold(s, a as u16).told(),
+        31 => girdermoth_statistics(s, a as u16).told(),
+        _ => unreachable!("there are {} calls", CALLS.len()),
+    }
+}
+
+/// The calls on timers and on the round-trip estimator.
+pub(crate) const LEAF_CALLS: [&str; 15] = [
+    "girdermoth_rto_new",
+    "girdermoth_rto_measure",
+    "girdermoth_rto_get",
+    "girdermoth_rto_reset",
+    "girdermoth_rto_set",
+    "girdermoth_timers_new",
+    "girdermoth_timers_next_timeout",
+    "girdermoth_timer_get",
+    "girdermoth_timer_set",
+    "girdermoth_timer_start",
+    "girdermoth_timer_restart_if_stale",
+    "girdermoth_timer_stop",
+    "girdermoth_timer_reset_retrans",
+    "girdermoth_timer_suppress_error_count",
+    "girdermoth_timer_is_expired",
+];
+
+/// A call on timers or on an estimator, with any numbers.
+pub(crate) fn leaf_call(which: usize, t: Timers, r: Rto, [a, b, c, d, e]: [u64; 5]) -> Vec<u64> {
+    match which {
+        0 => girdermoth_rto_new(a, b, c).told(),
+        1 => girdermoth_rto_measure(r, a).told(),
+        2 => girdermoth_rto_get(r).told(),
+        3 => girdermoth_rto_reset(r).told(),
+        4 => girdermoth_rto_set(r, a, b % 2 == 1).told(),
+        5 => girdermoth_timers_new(a % 2 == 1, b, c % 2 == 1, d, e).told(),
+        6 => girdermoth_timers_next_timeout(t).told(),
+        7 => girdermoth_timer_get(t, (a % 8) as usize).told(),
+        8 => girdermoth_timer_set(t, (a % 8) as usize, b % 2 == 1, c).told(),
+        9 => girdermoth_timer_start(t, (a % 8) as usize, b, c).told(),
+        10 => girdermoth_timer_restart_if_stale(t, (a % 8) as usize, b, c).told(),
+        11 => girdermoth_timer_stop(t, (a % 8) as usize).told(),
+        12 => girdermoth_timer_reset_retrans(t, (a % 8) as usize).told(),
+        13 => girdermoth_timer_suppress_error_count(t, (a % 8) as usize).told(),
+        14 => girdermoth_timer_is_expired(t, (a % 8) as usize, b).told(),
+        _ => unreachable!("there are {} calls", LEAF_CALLS.len()),
+    }
+}
