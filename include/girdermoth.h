@@ -174,7 +174,7 @@ girdermoth_reply girdermoth_high_threshold(const girdermoth_sender *s, uint16_t 
 // Messages and bytes that the stream has sent. Refused: NOT_OPEN.
 girdermoth_counts girdermoth_statistics(const girdermoth_sender *s, uint16_t identifier);
 
-// ---- the round-trip estimator and the timers: structs of numbers that go in and come back by value
+// ---- the round-trip estimator: a struct of numbers that goes in and comes back by value
 
 typedef struct {
     double rttvar;
@@ -188,31 +188,7 @@ typedef struct {
     uint8_t refusal;
 } girdermoth_rto_reply;
 
-typedef struct {
-    uint64_t deadline, maximum;
-    uint32_t retrans;
-    uint8_t has_deadline, has_maximum, suppressed;
-} girdermoth_timer;
-
-// The places of the six timers.
-enum { GIRDERMOTH_T1_INIT, GIRDERMOTH_T1_COOKIE, GIRDERMOTH_T2_SHUTDOWN, GIRDERMOTH_T3_RTX, GIRDERMOTH_RECONFIG, GIRDERMOTH_ACK };
-
-typedef struct {
-    girdermoth_timer entries[6];
-    uint32_t rto_max;
-} girdermoth_timers;
-
-// The timers after the call; what an expiry tells.
-typedef struct {
-    girdermoth_timers timers;
-    uint32_t count;
-    uint8_t refusal;
-    bool expired, failure;
-} girdermoth_timers_reply;
-
 GIRDERMOTH_ASSERT(sizeof(girdermoth_rto) == 56 && sizeof(girdermoth_rto_reply) == 72 && offsetof(girdermoth_rto_reply, refusal) == 64, "rto");
-GIRDERMOTH_ASSERT(sizeof(girdermoth_timer) == 24 && offsetof(girdermoth_timer, suppressed) == 22, "timer");
-GIRDERMOTH_ASSERT(sizeof(girdermoth_timers) == 152 && sizeof(girdermoth_timers_reply) == 160 && offsetof(girdermoth_timers_reply, failure) == 158, "timers");
 
 // A refused call hands back the estimator that was given. Settings and measured times are milliseconds.
 // Refused: BEYOND_LIMIT, BAD_BOUNDS; then all numbers of the estimator are 0.
@@ -225,26 +201,59 @@ girdermoth_rto_reply girdermoth_rto_reset(girdermoth_rto r);
 // Refused: BEYOND_LIMIT.
 girdermoth_rto_reply girdermoth_rto_set(girdermoth_rto r, uint64_t rto, bool no_update);
 
-// A refused call hands back the timers that were given (of those that girdermoth_timers_new did not make, some that mean the same: a flag of 0
-// or 1, and 0 for what a flag of 0 leaves untold). A `timer` beyond the six is refused with BEYOND_LIMIT by each of them.
-// The maxima are those of the init and the data retransmissions, where they exist. Refused: BEYOND_LIMIT.
-girdermoth_timers_reply girdermoth_timers_new(bool has_init, uint64_t init, bool has_data, uint64_t data, uint64_t rto_max);
+// ---- the six timers: one struct that the caller owns, and lends to each call as it does a sender
+
+// A flag is any byte but 0. `deadline` and `maximum` are told by their flags; `unused` says nothing, and is there so that every byte has a name.
+// The calls read a timer as three words, so this is how it lies on a little-endian machine, as the kit's targets are.
+typedef struct {
+    uint64_t deadline, maximum;
+    uint32_t retrans;
+    uint8_t has_deadline, has_maximum, suppressed, unused;
+} girdermoth_timer;
+
+// The places of the six timers.
+enum { GIRDERMOTH_T1_INIT, GIRDERMOTH_T1_COOKIE, GIRDERMOTH_T2_SHUTDOWN, GIRDERMOTH_T3_RTX, GIRDERMOTH_RECONFIG, GIRDERMOTH_ACK };
+
+// Any bytes are timers: but only girdermoth_timers_new makes timers that mean something.
+typedef struct {
+    girdermoth_timer entries[6];
+    uint32_t rto_max;
+} girdermoth_timers;
+
+// What an expiry tells.
+typedef struct {
+    uint32_t count;
+    uint8_t refusal;
+    bool expired, failure;
+} girdermoth_expiry;
+
+GIRDERMOTH_ASSERT(sizeof(girdermoth_timer) == 24 && offsetof(girdermoth_timer, retrans) == 16 && offsetof(girdermoth_timer, suppressed) == 22, "timer");
+GIRDERMOTH_ASSERT(sizeof(girdermoth_timers) == 152 && offsetof(girdermoth_timers, rto_max) == 144, "timers");
+GIRDERMOTH_ASSERT(sizeof(girdermoth_expiry) == 8 && offsetof(girdermoth_expiry, failure) == 6, "expiry");
+#if defined(__BYTE_ORDER__) && __BYTE_ORDER__ != __ORDER_LITTLE_ENDIAN__
+#error "girdermoth_timer is for little-endian machines"
+#endif
+
+// A call touches the timer that it names and no other; a refused call changes no byte. A `timer` beyond the six is refused with BEYOND_LIMIT by each
+// of them. A reply that is a uint8_t alone is 0, or the refusal.
+// Six idle timers, whatever the bytes were. The maxima are those of the init and the data retransmissions, where they exist. Refused: BEYOND_LIMIT.
+uint8_t girdermoth_timers_new(girdermoth_timers *s, bool has_init, uint64_t init, bool has_data, uint64_t data, uint64_t rto_max);
 // The smallest deadline of the six, where `yes` is set. Never refused.
-girdermoth_reply girdermoth_timers_next_timeout(girdermoth_timers t);
+girdermoth_reply girdermoth_timers_next_timeout(const girdermoth_timers *s);
 // The deadline of a timer, where `yes` is set.
-girdermoth_reply girdermoth_timer_get(girdermoth_timers t, size_t timer);
+girdermoth_reply girdermoth_timer_get(const girdermoth_timers *s, size_t timer);
 // Sets the deadline, or clears it where `is` is unset. Refused: BEYOND_LIMIT.
-girdermoth_timers_reply girdermoth_timer_set(girdermoth_timers t, size_t timer, bool is, uint64_t time);
+uint8_t girdermoth_timer_set(girdermoth_timers *s, size_t timer, bool is, uint64_t time);
 // Refused: BEYOND_LIMIT.
-girdermoth_timers_reply girdermoth_timer_start(girdermoth_timers t, size_t timer, uint64_t clock, uint64_t interval);
+uint8_t girdermoth_timer_start(girdermoth_timers *s, size_t timer, uint64_t clock, uint64_t interval);
 // A start, where there is no deadline at or after `clock`. Refused: BEYOND_LIMIT.
-girdermoth_timers_reply girdermoth_timer_restart_if_stale(girdermoth_timers t, size_t timer, uint64_t clock, uint64_t interval);
+uint8_t girdermoth_timer_restart_if_stale(girdermoth_timers *s, size_t timer, uint64_t clock, uint64_t interval);
 // Clears deadline, count and suppression; the count alone; or exempts the next expiry from the count.
-girdermoth_timers_reply girdermoth_timer_stop(girdermoth_timers t, size_t timer);
-girdermoth_timers_reply girdermoth_timer_reset_retrans(girdermoth_timers t, size_t timer);
-girdermoth_timers_reply girdermoth_timer_suppress_error_count(girdermoth_timers t, size_t timer);
+uint8_t girdermoth_timer_stop(girdermoth_timers *s, size_t timer);
+uint8_t girdermoth_timer_reset_retrans(girdermoth_timers *s, size_t timer);
+uint8_t girdermoth_timer_suppress_error_count(girdermoth_timers *s, size_t timer);
 // Asking counts: every call at or after the deadline is an expiry of its own. Refused: BEYOND_LIMIT, COUNT_FULL.
-girdermoth_timers_reply girdermoth_timer_is_expired(girdermoth_timers t, size_t timer, uint64_t clock);
+girdermoth_expiry girdermoth_timer_is_expired(girdermoth_timers *s, size_t timer, uint64_t clock);
 
 #ifdef __cplusplus
 }

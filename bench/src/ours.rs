@@ -121,38 +121,30 @@ pub struct OurTimers {
     rto: c::Rto,
 }
 
-impl OurTimers {
-    fn keep(&mut self, reply: &c::TimersReply) {
-        assert!(reply.refusal == 0);
-        self.timers = reply.timers;
-    }
-}
-
 impl Clockwork for OurTimers {
     type Time = u64;
 
     fn fresh() -> Self {
-        OurTimers {
-            timers: c::girdermoth_timers_new(true, 8, true, 10, 60_000).timers,
-            rto: c::girdermoth_rto_new(3000, 1000, 60_000).rto,
-        }
+        let mut timers = c::Timers::ZERO;
+        assert!(c::girdermoth_timers_new(&mut timers, true, 8, true, 10, 60_000) == 0);
+        OurTimers { timers, rto: c::girdermoth_rto_new(3000, 1000, 60_000).rto }
     }
     fn time(&self, milliseconds: u64) -> u64 {
         milliseconds
     }
     fn start(&mut self, timer: usize, now: u64, interval: u64) {
-        self.keep(&c::girdermoth_timer_start(self.timers, timer, now, interval));
+        assert!(c::girdermoth_timer_start(&mut self.timers, timer, now, interval) == 0);
     }
     fn stop(&mut self, timer: usize) {
-        self.keep(&c::girdermoth_timer_stop(self.timers, timer));
+        assert!(c::girdermoth_timer_stop(&mut self.timers, timer) == 0);
     }
     fn is_expired(&mut self, timer: usize, now: u64) -> (bool, bool, u64) {
-        let reply = c::girdermoth_timer_is_expired(self.timers, timer, now);
-        self.keep(&reply);
+        let reply = c::girdermoth_timer_is_expired(&mut self.timers, timer, now);
+        assert!(reply.refusal == 0);
         (reply.expired != 0, reply.failure != 0, u64::from(reply.count))
     }
     fn next_timeout(&self) -> Option<u64> {
-        let due = c::girdermoth_timers_next_timeout(self.timers);
+        let due = c::girdermoth_timers_next_timeout(&self.timers);
         (due.yes != 0).then_some(due.value)
     }
     fn milliseconds(&self, time: u64) -> u64 {

@@ -1,4 +1,4 @@
-// 01's examples of timers and RTO, from C; and garbage bytes in both: each call returns, the same twice.
+// 01's examples of timers and RTO, from C; and garbage bytes in both: each call returns, the same twice, and a refused one changes no byte.
 #include "girdermoth.h"
 #include <stdio.h>
 #include <stdlib.h>
@@ -6,6 +6,7 @@
 #include "leaf_calls.inc"
 
 static int bad = 0;
+static long refused = 0;
 static void want(int ok, const char *what) { if (!ok) { bad++; printf("WRONG: %s\n", what); } }
 static uint64_t seed = 88172645463325252u;
 static uint64_t rnd(void) { seed ^= seed << 13; seed ^= seed >> 7; seed ^= seed << 17; return seed; }
@@ -26,26 +27,52 @@ static void estimates(void) {
 }
 
 static void timers(void) {
-    girdermoth_timers_reply t = girdermoth_timers_new(true, 8, false, 0, 60000);
-    want(t.refusal == 0 && !girdermoth_timers_next_timeout(t.timers).yes, "no deadline");
+    girdermoth_timers t, u;
+    garbage(&t, sizeof t);
+    want(girdermoth_timers_new(&t, true, 8, false, 0, 60000) == 0 && !girdermoth_timers_next_timeout(&t).yes, "no deadline");
     for (unsigned n = 0; n < 8; n++) {
-        t = girdermoth_timer_start(t.timers, GIRDERMOTH_T1_INIT, 100, 1000);
+        want(girdermoth_timer_start(&t, GIRDERMOTH_T1_INIT, 100, 1000) == 0, "start");
         uint64_t due = 100 + (n < 6 ? UINT64_C(1000) << n : 60000);
-        want(girdermoth_timer_get(t.timers, GIRDERMOTH_T1_INIT).value == due && girdermoth_timers_next_timeout(t.timers).value == due, "back-off");
-        want(!girdermoth_timer_is_expired(t.timers, GIRDERMOTH_T1_INIT, due - 1).expired, "alive before its deadline");
-        t = girdermoth_timer_is_expired(t.timers, GIRDERMOTH_T1_INIT, due);
-        want(t.expired && !t.failure && t.count == n + 1, "expired at its deadline");
+        want(girdermoth_timer_get(&t, GIRDERMOTH_T1_INIT).value == due && girdermoth_timers_next_timeout(&t).value == due, "back-off");
+        want(!girdermoth_timer_is_expired(&t, GIRDERMOTH_T1_INIT, due - 1).expired, "alive before its deadline");
+        girdermoth_expiry e = girdermoth_timer_is_expired(&t, GIRDERMOTH_T1_INIT, due);
+        want(e.expired && !e.failure && e.count == n + 1, "expired at its deadline");
     }
-    want(girdermoth_timer_is_expired(t.timers, GIRDERMOTH_T1_INIT, 100000).failure, "the ninth is a failure");
-    girdermoth_timers_reply s = girdermoth_timer_is_expired(girdermoth_timer_suppress_error_count(t.timers, 0).timers, 0, 100000);
-    want(s.expired && !s.failure && s.count == 8, "suppressed");
-    want(girdermoth_timer_reset_retrans(t.timers, 0).timers.entries[0].retrans == 0 && !girdermoth_timer_get(girdermoth_timer_stop(t.timers, 0).timers, 0).yes, "reset and stop");
-    want(girdermoth_timer_get(girdermoth_timer_set(t.timers, GIRDERMOTH_ACK, true, 5).timers, GIRDERMOTH_ACK).value == 5, "set");
-    want(girdermoth_timer_get(girdermoth_timer_restart_if_stale(t.timers, 0, 9, 9).timers, 0).value == 60100, "not stale");
-    t.timers.entries[0].retrans = UINT32_MAX;
-    want(girdermoth_timer_is_expired(t.timers, 0, 100000).refusal == GIRDERMOTH_COUNT_FULL, "count full");
-    want(girdermoth_timer_start(t.timers, 6, 0, 0).refusal == GIRDERMOTH_BEYOND_LIMIT && girdermoth_timer_get(t.timers, SIZE_MAX).refusal == GIRDERMOTH_BEYOND_LIMIT, "a seventh timer");
-    want(girdermoth_timer_start(t.timers, 0, GIRDERMOTH_CLOCK_MAX + 1, 0).refusal == GIRDERMOTH_BEYOND_LIMIT, "a clock beyond its limit");
+    u = t; want(girdermoth_timer_is_expired(&u, GIRDERMOTH_T1_INIT, 100000).failure, "the ninth is a failure");
+    u = t; girdermoth_timer_suppress_error_count(&u, 0);
+    girdermoth_expiry e = girdermoth_timer_is_expired(&u, 0, 100000);
+    want(e.expired && !e.failure && e.count == 8, "suppressed");
+    u = t; want(girdermoth_timer_reset_retrans(&u, 0) == 0 && u.entries[0].retrans == 0 && girdermoth_timer_get(&u, 0).yes, "reset");
+    u = t; want(girdermoth_timer_stop(&u, 0) == 0 && u.entries[0].retrans == 0 && !girdermoth_timer_get(&u, 0).yes, "stop");
+    u = t; want(girdermoth_timer_set(&u, GIRDERMOTH_ACK, true, 5) == 0 && girdermoth_timer_get(&u, GIRDERMOTH_ACK).value == 5, "set");
+    u = t; want(girdermoth_timer_restart_if_stale(&u, 0, 9, 9) == 0 && girdermoth_timer_get(&u, 0).value == 60100, "not stale");
+    t.entries[0].retrans = UINT32_MAX; memcpy(&u, &t, sizeof t);
+    want(girdermoth_timer_is_expired(&u, 0, 100000).refusal == GIRDERMOTH_COUNT_FULL, "count full");
+    want(girdermoth_timer_start(&u, 6, 0, 0) == GIRDERMOTH_BEYOND_LIMIT && girdermoth_timer_get(&u, SIZE_MAX).refusal == GIRDERMOTH_BEYOND_LIMIT, "a seventh timer");
+    want(girdermoth_timer_start(&u, 0, GIRDERMOTH_CLOCK_MAX + 1, 0) == GIRDERMOTH_BEYOND_LIMIT, "a clock beyond its limit");
+    want(girdermoth_timers_new(&u, false, 0, false, 0, UINT64_C(1) << 32) == GIRDERMOTH_BEYOND_LIMIT, "a wait beyond its limit");
+    want(memcmp(&u, &t, sizeof t) == 0, "refused calls");
+}
+
+// Timers of random bytes, on a heap block of the exact size (for ASan and valgrind) and between canaries. Every byte counts, the padding too.
+static void any_timers(long turn) {
+    struct { uint64_t front[8]; girdermoth_timers t; uint64_t back[8]; } g;
+    girdermoth_timers *t = malloc(sizeof *t), was;
+    garbage(t, sizeof *t); memset(&g, 0xA5, sizeof g); memcpy(&was, t, sizeof was); memcpy(&g.t, t, sizeof *t);
+    int call = turn % TIMER_CALLS; size_t which = rnd() % 7;
+    uint64_t x[4] = {rnd() >> (rnd() % 64), rnd() >> (rnd() % 64), rnd() >> (rnd() % 64), rnd()};
+    if (turn / TIMER_CALLS % 2) { x[0] %= GIRDERMOTH_CLOCK_MAX; x[1] %= 70000; x[2] %= 70000; }
+    any r = run_timers(t, call, which, x), q = run_timers(&g.t, call, which, x);
+    const char *name = timer_call_names[call];
+    want(memcmp(&r, &q, sizeof r) == 0 && memcmp(t, &g.t, sizeof *t) == 0, name);
+    if (r.part[0] || timer_asks(call)) want(memcmp(t, &was, sizeof was) == 0, name);
+    if (r.part[0]) { refused++; want(r.part[0] <= 12 && !r.part[1] && !r.part[2] && !r.part[3], name); }
+    if (call != TIMER_CALL_timers_new) {
+        if (which < 6) memcpy(&was.entries[which], &t->entries[which], sizeof *was.entries);
+        want(memcmp(t, &was, sizeof was) == 0, name);
+    }
+    for (int i = 0; i < 8; i++) want(g.front[i] == 0xA5A5A5A5A5A5A5A5u && g.back[i] == 0xA5A5A5A5A5A5A5A5u, name);
+    free(t);
 }
 
 int main(int argc, char **argv) {
@@ -57,13 +84,9 @@ int main(int argc, char **argv) {
         girdermoth_rto_reply a = change_rto(r, turn % CHANGES_OF_RTO, rtt, x), b = change_rto(r, turn % CHANGES_OF_RTO, rtt, x);
         want(memcmp(&a.rto, &b.rto, 49) == 0 && a.value == b.value && a.refusal == b.refusal, "garbage in an estimator");
         if (a.refusal) want(memcmp(&a.rto, &r, 49) == 0, "a refusal changed the estimator");
-        girdermoth_timers t; garbage(&t, sizeof t);
-        size_t which = rnd() % 7; int call = turn % CHANGES_OF_TIMERS; if (turn % 2) rtt %= GIRDERMOTH_CLOCK_MAX;
-        girdermoth_timers_reply p = change_timers(t, call, which, rtt, x), q = change_timers(t, call, which, rtt, x);
-        want(memcmp(&p.timers.entries[5], &q.timers.entries[5], 23) == 0 && p.count == q.count && p.refusal == q.refusal && p.expired == q.expired, "garbage in timers");
-        for (size_t i = 0; i < 6; i++) if (i != which) want(p.timers.entries[i].retrans == t.entries[i].retrans && (p.timers.entries[i].deadline == t.entries[i].deadline || !t.entries[i].has_deadline), "another timer changed");
-        girdermoth_timers_next_timeout(t); girdermoth_timer_get(t, which);
+        any_timers(turn);
     }
-    printf("leaves: %ld turns, %d wrong\n", turns, bad);
+    want(refused > turns / 10 && refused < turns / 2, "few calls on timers are refused, or most");
+    printf("leaves: %ld turns, %ld refused by timers, %d wrong\n", turns, refused, bad);
     return bad != 0;
 }

@@ -142,29 +142,46 @@ static void refusals(void) {
 static void timers(void) {
     const size_t place[] = {GIRDERMOTH_T1_INIT, GIRDERMOTH_T1_COOKIE, GIRDERMOTH_T2_SHUTDOWN, GIRDERMOTH_T3_RTX, GIRDERMOTH_RECONFIG, GIRDERMOTH_ACK};
     const unsigned most[] = {2, 2, 0, 1, 2, 0};
-    girdermoth_timers made = girdermoth_timers_new(true, 2, true, 1, 700).timers;
-    WANT(made.rto_max == 700);
+    girdermoth_timers made, t;
+    WANT(girdermoth_timers_new(&made, true, 2, true, 1, 700) == GIRDERMOTH_DONE && made.rto_max == 700);
     for (int i = 0; i < 6; i++) {
-        girdermoth_timers_reply t = girdermoth_timer_start(made, place[i], 1000, 900);
+        t = made;
         uint64_t due = place[i] == GIRDERMOTH_ACK ? 1900 : 1700;
-        const girdermoth_timer *entry = &t.timers.entries[place[i]];
-        WANT(t.refusal == 0 && girdermoth_timer_get(t.timers, place[i]).value == due && girdermoth_timers_next_timeout(t.timers).value == due);
+        girdermoth_timer *entry = &t.entries[place[i]];
+        WANT(girdermoth_timer_start(&t, place[i], 1000, 900) == GIRDERMOTH_DONE);
+        WANT(girdermoth_timer_get(&t, place[i]).value == due && girdermoth_timers_next_timeout(&t).value == due);
         WANT(entry->has_deadline && entry->deadline == due && entry->has_maximum == (most[i] > 0) && entry->maximum == most[i] && !entry->suppressed);
-        WANT(!girdermoth_timer_is_expired(t.timers, place[i], due - 1).expired);
+        girdermoth_expiry told = girdermoth_timer_is_expired(&t, place[i], due - 1);
+        WANT(!told.expired && !told.failure && told.count == 0 && told.refusal == GIRDERMOTH_DONE);
         for (unsigned n = 1; n < 5; n++) {
-            t = girdermoth_timer_is_expired(t.timers, place[i], due);
-            WANT(t.expired && t.count == n && t.failure == (most[i] > 0 && n > most[i]) && t.timers.entries[place[i]].retrans == n);
+            told = girdermoth_timer_is_expired(&t, place[i], due);
+            WANT(told.expired && told.count == n && told.failure == (most[i] > 0 && n > most[i]) && told.refusal == GIRDERMOTH_DONE && entry->retrans == n);
         }
-        t = girdermoth_timer_suppress_error_count(t.timers, place[i]);
-        WANT(t.timers.entries[place[i]].suppressed);
-        for (int other = 0; other < 6; other++) WANT(other == i || !girdermoth_timer_get(t.timers, place[other]).yes);
-        t.timers.entries[place[i]].retrans = UINT32_MAX;
-        t.timers.entries[place[i]].suppressed = 0;
-        WANT(girdermoth_timer_is_expired(t.timers, place[i], due).refusal == GIRDERMOTH_COUNT_FULL);
+        WANT(girdermoth_timer_suppress_error_count(&t, place[i]) == GIRDERMOTH_DONE && entry->suppressed);
+        for (int other = 0; other < 6; other++) WANT(other == i || !girdermoth_timer_get(&t, place[other]).yes);
+        told = girdermoth_timer_is_expired(&t, place[i], due);
+        WANT(told.expired && told.count == 4 && !told.failure && !entry->suppressed);
+        // the fields that no call has set mean what they say, too
+        entry->retrans = UINT32_MAX;
+        told = girdermoth_timer_is_expired(&t, place[i], due);
+        WANT(told.refusal == GIRDERMOTH_COUNT_FULL && told.count == 0 && !told.expired && !told.failure);
+        *entry = (girdermoth_timer){.deadline = 1000, .maximum = 40, .retrans = 40, .has_deadline = 2, .has_maximum = 4, .suppressed = 8};
+        WANT(girdermoth_timer_get(&t, place[i]).yes && girdermoth_timer_get(&t, place[i]).value == 1000);
+        told = girdermoth_timer_is_expired(&t, place[i], 1000);
+        WANT(told.expired && !told.failure && told.count == 40 && !entry->suppressed);
+        told = girdermoth_timer_is_expired(&t, place[i], 1000);
+        WANT(told.expired && told.failure && told.count == 41);
+        WANT(girdermoth_timer_reset_retrans(&t, place[i]) == GIRDERMOTH_DONE && entry->retrans == 0 && entry->has_deadline && entry->has_maximum);
+        WANT(girdermoth_timer_stop(&t, place[i]) == GIRDERMOTH_DONE && !entry->has_deadline && entry->has_maximum && entry->maximum == 40);
+        WANT(!girdermoth_timers_next_timeout(&t).yes);
     }
-    WANT(girdermoth_timer_get(made, 6).refusal == GIRDERMOTH_BEYOND_LIMIT);
-    WANT(girdermoth_timer_set(made, GIRDERMOTH_ACK, true, GIRDERMOTH_CLOCK_MAX + 1).refusal == GIRDERMOTH_BEYOND_LIMIT);
-    WANT(girdermoth_timer_get(girdermoth_timer_set(made, GIRDERMOTH_ACK, true, GIRDERMOTH_CLOCK_MAX).timers, GIRDERMOTH_ACK).value == GIRDERMOTH_CLOCK_MAX);
+    t = made;
+    WANT(girdermoth_timers_new(&t, false, 0, false, 0, UINT64_C(4294967296)) == GIRDERMOTH_BEYOND_LIMIT && t.rto_max == 700);
+    WANT(girdermoth_timer_get(&t, 6).refusal == GIRDERMOTH_BEYOND_LIMIT);
+    WANT(girdermoth_timer_set(&t, GIRDERMOTH_ACK, true, GIRDERMOTH_CLOCK_MAX + 1) == GIRDERMOTH_BEYOND_LIMIT && !girdermoth_timer_get(&t, GIRDERMOTH_ACK).yes);
+    WANT(girdermoth_timer_set(&t, GIRDERMOTH_ACK, true, GIRDERMOTH_CLOCK_MAX) == GIRDERMOTH_DONE);
+    WANT(girdermoth_timer_get(&t, GIRDERMOTH_ACK).value == GIRDERMOTH_CLOCK_MAX && girdermoth_timers_next_timeout(&t).value == GIRDERMOTH_CLOCK_MAX);
+    WANT(girdermoth_timer_set(&t, GIRDERMOTH_ACK, false, 0) == GIRDERMOTH_DONE && !girdermoth_timer_get(&t, GIRDERMOTH_ACK).yes);
 }
 
 // Every field of an estimator, each another number.

@@ -1,15 +1,15 @@
 //! Senders, timers and estimators of any bytes: each call returns, answers the same twice, and writes nowhere but in what is lent to it. Under
 //! valgrind and ASan as well (host/check).
 
-use crate::any_calls::{CALLS, LEAF_CALLS, Told, call, leaf_call};
+use crate::any_calls::{CALLS, RTO_CALLS, TIMER_CALLS, Told, call, rto_call, timer_call};
 use crate::sys::{Rto, Sender, Timers};
 
-/// A sender with words on both sides that no call may touch.
+/// What is lent, with words on both sides that no call may touch.
 #[repr(C)]
 #[derive(Clone)]
-struct Fenced {
+struct Fenced<T> {
     before: [u64; 8],
-    sender: Sender,
+    lent: T,
     after: [u64; 8],
 }
 
@@ -43,23 +43,23 @@ fn any_bytes_are_a_sender() {
     let mut refused = 0;
     for round in 0..120 {
         let mut words = || if round % 2 == 0 { rng.word() } else { rng.number() };
-        let start = Box::new(Fenced { before: [FENCE; 8], sender: Sender::of(&mut words), after: [FENCE; 8] });
+        let start = Box::new(Fenced { before: [FENCE; 8], lent: Sender::of(&mut words), after: [FENCE; 8] });
         for (which, (name, asks)) in CALLS.into_iter().enumerate() {
             let numbers = [rng.number(), rng.number(), rng.number(), rng.number()];
             let room = (rng.number() % 301) as usize;
             let (mut one, mut other) = (start.clone(), start.clone());
             let (mut list, mut same_list) = (LIST, LIST);
-            let told = call(which, &mut one.sender, &mut list[..room], numbers);
-            assert_eq!(told, call(which, &mut other.sender, &mut same_list[..room], numbers), "{name} answers otherwise the second time");
-            assert!(one.sender == other.sender && list == same_list, "{name} does otherwise the second time");
+            let told = call(which, &mut one.lent, &mut list[..room], numbers);
+            assert_eq!(told, call(which, &mut other.lent, &mut same_list[..room], numbers), "{name} answers otherwise the second time");
+            assert!(one.lent == other.lent && list == same_list, "{name} does otherwise the second time");
             assert!(one.before == [FENCE; 8] && one.after == [FENCE; 8], "{name} writes beside the sender");
             let listed = if name == "girdermoth_expired_inflight" && told[0] == 0 { told[1] as usize } else { 0 };
             assert!(listed <= room && list[listed..] == LIST[listed..], "{name} writes behind the list");
             if asks {
-                assert!(one.sender == start.sender, "the question {name} changes the sender");
+                assert!(one.lent == start.lent, "the question {name} changes the sender");
             } else if told[0] > 0 {
                 assert!(told[0] <= 12 && told[1..].iter().all(|number| *number == 0), "{name} answers {told:?}");
-                assert!(one.sender.means_the_same(&start.sender), "{name} is refused and changes the sender");
+                assert!(one.lent.means_the_same(&start.lent), "{name} is refused and changes the sender");
                 refused += 1;
             }
         }
@@ -75,26 +75,58 @@ fn plain(mut timers: Timers) -> Timers {
         entry.suppressed = (entry.suppressed != 0).into();
         entry.deadline *= u64::from(entry.has_deadline);
         entry.maximum *= u64::from(entry.has_maximum);
+        entry.unused = 0;
     }
     timers
 }
 
 #[test]
-fn any_numbers_are_timers_and_an_estimator() {
+fn any_bytes_are_timers() {
+    let mut rng = Rng(0x2545_F491_4F6C_DD1D);
+    let (mut refused, mut changed) = (0, 0);
+    for round in 0..400 {
+        let mut words = || if round % 2 == 0 { rng.word() } else { rng.number() };
+        let start = Fenced { before: [FENCE; 8], lent: Timers::of(&mut words), after: [FENCE; 8] };
+        for (which, (name, asks)) in TIMER_CALLS.into_iter().enumerate() {
+            let numbers = [rng.number(), rng.number(), rng.number(), rng.number(), rng.number()];
+            let (mut one, mut other, mut simple) = (start.clone(), start.clone(), plain(start.lent));
+            let told = timer_call(which, &mut one.lent, numbers);
+            assert_eq!(told, timer_call(which, &mut other.lent, numbers), "{name} answers otherwise the second time");
+            assert_eq!(one.lent, other.lent, "{name} does otherwise the second time");
+            assert_eq!(told, timer_call(which, &mut simple, numbers), "{name} answers otherwise of timers that mean the same");
+            assert_eq!(plain(one.lent), plain(simple), "{name} does otherwise with timers that mean the same");
+            assert!(one.before == [FENCE; 8] && one.after == [FENCE; 8], "{name} writes beside the timers");
+            if told[0] > 0 {
+                assert!(told[0] <= 12 && told[1..].iter().all(|number| *number == 0), "{name} is refused, and answers {told:?}");
+                refused += 1;
+            }
+            if asks || told[0] > 0 {
+                assert_eq!(one.lent, start.lent, "{name} only asks, or is refused, and changes the timers");
+            } else if name != "girdermoth_timers_new" {
+                let named = (numbers[0] % 8) as usize;
+                changed += usize::from(one.lent != start.lent);
+                one.lent.entries[named] = start.lent.entries[named];
+                assert_eq!(one.lent, start.lent, "{name} changes more than the timer that it names");
+            }
+        }
+    }
+    assert!(refused > 400 && changed > 400, "few are refused, or few change a timer: {refused}, {changed}");
+}
+
+#[test]
+fn any_numbers_are_an_estimator() {
     let mut rng = Rng(0x2545_F491_4F6C_DD1D);
     let mut refused = 0;
     for round in 0..400 {
-        let mut words = || if round % 2 == 0 { rng.word() } else { rng.number() };
-        let (timers, rto) = (Timers::of(&mut words), Rto::of(&mut words));
-        for (which, name) in LEAF_CALLS.into_iter().enumerate() {
-            let numbers = [rng.number(), rng.number(), rng.number(), rng.number(), rng.number()];
-            let told = leaf_call(which, timers, rto, numbers);
-            assert_eq!(told, leaf_call(which, timers, rto, numbers), "{name} answers otherwise the second time");
-            // but the one reply that is a number alone
+        let rto = Rto::of(&mut || if round % 2 == 0 { rng.word() } else { rng.number() });
+        for (which, name) in RTO_CALLS.into_iter().enumerate() {
+            let numbers = [rng.number(), rng.number(), rng.number()];
+            let told = rto_call(which, rto, numbers);
+            assert_eq!(told, rto_call(which, rto, numbers), "{name} answers otherwise the second time");
+            // but the one reply that is no refusal: a number alone
             if told.len() > 1 && told[0] > 0 {
-                let behind = |given: Vec<u64>| told[1..].strip_prefix(&given[..]);
-                let rest = behind(timers.told()).or_else(|| behind(plain(timers).told())).or_else(|| behind(rto.told())).unwrap_or(&told[1..]);
-                assert!(told[0] <= 12 && rest.iter().all(|number| *number == 0), "{name} is refused, and answers {told:?} of {timers:?} and {rto:?}");
+                let rest = told[1..].strip_prefix(&rto.told()[..]).unwrap_or(&told[1..]);
+                assert!(told[0] <= 12 && rest.iter().all(|number| *number == 0), "{name} is refused, and answers {told:?} of {rto:?}");
                 refused += 1;
             }
         }

@@ -25,6 +25,12 @@ impl Told for u64 {
     }
 }
 
+impl Told for u8 {
+    fn tell(&self, told: &mut Vec<u64>) {
+        told.push((*self).into());
+    }
+}
+
 impl Told for Reply {
     fn tell(&self, told: &mut Vec<u64>) {
         told.push(self.refusal.into());
@@ -99,28 +105,9 @@ impl Told for RtoReply {
     }
 }
 
-impl Told for Timer {
-    fn tell(&self, told: &mut Vec<u64>) {
-        told.push(self.deadline);
-        told.push(self.maximum);
-        told.push(self.retrans.into());
-        told.push(self.has_deadline.into());
-        told.push(self.has_maximum.into());
-        told.push(self.suppressed.into());
-    }
-}
-
-impl Told for Timers {
-    fn tell(&self, told: &mut Vec<u64>) {
-        self.entries.iter().for_each(|part| part.tell(told));
-        told.push(self.rto_max.into());
-    }
-}
-
-impl Told for TimersReply {
+impl Told for Expiry {
     fn tell(&self, told: &mut Vec<u64>) {
         told.push(self.refusal.into());
-        self.timers.tell(told);
         told.push(self.count.into());
         told.push(flag(self.expired));
         told.push(flag(self.failure));
@@ -187,6 +174,7 @@ impl Timer {
             has_deadline: word() as u8,
             has_maximum: word() as u8,
             suppressed: word() as u8,
+            unused: word() as u8,
         }
     }
 }
@@ -234,7 +222,7 @@ pub(crate) const CALLS: [(&str, bool); 32] = [
     ("girdermoth_statistics", true),
 ];
 
-/// A call on a sender, with a list that is lent and any numbers.
+/// A call on a sender, with any numbers and a list that is lent.
 pub(crate) fn call(which: usize, s: &mut Sender, list: &mut [u32], [a, b, c, d]: [u64; 4]) -> Vec<u64> {
     match which {
         0 => girdermoth_init(s, a as u32, b).told(),
@@ -273,43 +261,49 @@ pub(crate) fn call(which: usize, s: &mut Sender, list: &mut [u32], [a, b, c, d]:
     }
 }
 
-/// The calls on timers and on the round-trip estimator.
-pub(crate) const LEAF_CALLS: [&str; 15] = [
-    "girdermoth_rto_new",
-    "girdermoth_rto_measure",
-    "girdermoth_rto_get",
-    "girdermoth_rto_reset",
-    "girdermoth_rto_set",
-    "girdermoth_timers_new",
-    "girdermoth_timers_next_timeout",
-    "girdermoth_timer_get",
-    "girdermoth_timer_set",
-    "girdermoth_timer_start",
-    "girdermoth_timer_restart_if_stale",
-    "girdermoth_timer_stop",
-    "girdermoth_timer_reset_retrans",
-    "girdermoth_timer_suppress_error_count",
-    "girdermoth_timer_is_expired",
+/// The calls on timers: the name, and whether it only asks.
+pub(crate) const TIMER_CALLS: [(&str, bool); 10] = [
+    ("girdermoth_timers_new", false),
+    ("girdermoth_timers_next_timeout", true),
+    ("girdermoth_timer_get", true),
+    ("girdermoth_timer_set", false),
+    ("girdermoth_timer_start", false),
+    ("girdermoth_timer_restart_if_stale", false),
+    ("girdermoth_timer_stop", false),
+    ("girdermoth_timer_reset_retrans", false),
+    ("girdermoth_timer_suppress_error_count", false),
+    ("girdermoth_timer_is_expired", false),
 ];
 
-/// A call on timers or on an estimator, with any numbers.
-pub(crate) fn leaf_call(which: usize, t: Timers, r: Rto, [a, b, c, d, e]: [u64; 5]) -> Vec<u64> {
+/// A call on timers, with any numbers.
+pub(crate) fn timer_call(which: usize, s: &mut Timers, [a, b, c, d, e]: [u64; 5]) -> Vec<u64> {
+    match which {
+        0 => girdermoth_timers_new(s, a % 2 == 1, b, c % 2 == 1, d, e).told(),
+        1 => girdermoth_timers_next_timeout(s).told(),
+        2 => girdermoth_timer_get(s, (a % 8) as usize).told(),
+        3 => girdermoth_timer_set(s, (a % 8) as usize, b % 2 == 1, c).told(),
+        4 => girdermoth_timer_start(s, (a % 8) as usize, b, c).told(),
+        5 => girdermoth_timer_restart_if_stale(s, (a % 8) as usize, b, c).told(),
+        6 => girdermoth_timer_stop(s, (a % 8) as usize).told(),
+        7 => girdermoth_timer_reset_retrans(s, (a % 8) as usize).told(),
+        8 => girdermoth_timer_suppress_error_count(s, (a % 8) as usize).told(),
+        9 => girdermoth_timer_is_expired(s, (a % 8) as usize, b).told(),
+        _ => unreachable!("there are {} calls", TIMER_CALLS.len()),
+    }
+}
+
+/// The calls on an estimator.
+pub(crate) const RTO_CALLS: [&str; 5] =
+    ["girdermoth_rto_new", "girdermoth_rto_measure", "girdermoth_rto_get", "girdermoth_rto_reset", "girdermoth_rto_set"];
+
+/// A call on an estimator, with any numbers.
+pub(crate) fn rto_call(which: usize, r: Rto, [a, b, c]: [u64; 3]) -> Vec<u64> {
     match which {
         0 => girdermoth_rto_new(a, b, c).told(),
         1 => girdermoth_rto_measure(r, a).told(),
         2 => girdermoth_rto_get(r).told(),
         3 => girdermoth_rto_reset(r).told(),
         4 => girdermoth_rto_set(r, a, b % 2 == 1).told(),
-        5 => girdermoth_timers_new(a % 2 == 1, b, c % 2 == 1, d, e).told(),
-        6 => girdermoth_timers_next_timeout(t).told(),
-        7 => girdermoth_timer_get(t, (a % 8) as usize).told(),
-        8 => girdermoth_timer_set(t, (a % 8) as usize, b % 2 == 1, c).told(),
-        9 => girdermoth_timer_start(t, (a % 8) as usize, b, c).told(),
-        10 => girdermoth_timer_restart_if_stale(t, (a % 8) as usize, b, c).told(),
-        11 => girdermoth_timer_stop(t, (a % 8) as usize).told(),
-        12 => girdermoth_timer_reset_retrans(t, (a % 8) as usize).told(),
-        13 => girdermoth_timer_suppress_error_count(t, (a % 8) as usize).told(),
-        14 => girdermoth_timer_is_expired(t, (a % 8) as usize, b).told(),
-        _ => unreachable!("there are {} calls", LEAF_CALLS.len()),
+        _ => unreachable!("there are {} calls", RTO_CALLS.len()),
     }
 }

@@ -37,7 +37,7 @@ pub(crate) struct Sender {
 }
 
 impl Sender {
-    /// All zero: some sender, and not yet one that means something; `girdermoth_init` makes it that.
+    /// All zero: not yet one that means something; `girdermoth_init` makes it that.
     pub(crate) const ZERO: Sender = Sender {
         head: Head {
             unordered_start: 0,
@@ -138,6 +138,8 @@ pub(crate) struct RtoReply {
     pub(crate) refusal: u8,
 }
 
+/// A flag is any byte but 0. `deadline` and `maximum` are told by their flags; `unused` says nothing, and is there so that every byte has a name.
+/// The calls read a timer as three words, so this is how it lies on a little-endian machine, as the kit's targets are.
 #[repr(C)]
 #[derive(Clone, Copy, Debug, PartialEq)]
 pub(crate) struct Timer {
@@ -147,8 +149,10 @@ pub(crate) struct Timer {
     pub(crate) has_deadline: u8,
     pub(crate) has_maximum: u8,
     pub(crate) suppressed: u8,
+    pub(crate) unused: u8,
 }
 
+/// Any bytes are timers: but only girdermoth_timers_new makes timers that mean something.
 #[repr(C)]
 #[derive(Clone, Copy, Debug, PartialEq)]
 pub(crate) struct Timers {
@@ -156,11 +160,16 @@ pub(crate) struct Timers {
     pub(crate) rto_max: u32,
 }
 
-/// The timers after the call; what an expiry tells.
+impl Timers {
+    /// All zero: not yet one that means something; `girdermoth_timers_new` makes it that.
+    pub(crate) const ZERO: Timers =
+        Timers { entries: [Timer { deadline: 0, maximum: 0, retrans: 0, has_deadline: 0, has_maximum: 0, suppressed: 0, unused: 0 }; 6], rto_max: 0 };
+}
+
+/// What an expiry tells.
 #[repr(C)]
 #[derive(Clone, Copy, Debug, PartialEq)]
-pub(crate) struct TimersReply {
-    pub(crate) timers: Timers,
+pub(crate) struct Expiry {
     pub(crate) count: u32,
     pub(crate) refusal: u8,
     pub(crate) expired: u8,
@@ -186,15 +195,17 @@ layout!(Fragment: 72, 8; number 0, offset 8, deadline 16, since 24, tsn 32, leng
 layout!(Counts: 24, 8; messages 0, bytes 8, refusal 16);
 layout!(Rto: 56, 8; rttvar 0, srtt 8, rto 16, rto_initial 24, rto_min 32, rto_max 40, no_update 48);
 layout!(RtoReply: 72, 8; rto 0, value 56, refusal 64);
-layout!(Timer: 24, 8; deadline 0, maximum 8, retrans 16, has_deadline 20, has_maximum 21, suppressed 22);
+layout!(Timer: 24, 8; deadline 0, maximum 8, retrans 16, has_deadline 20, has_maximum 21, suppressed 22, unused 23);
 layout!(Timers: 152, 8; entries 0, rto_max 144);
-layout!(TimersReply: 160, 8; timers 0, count 152, refusal 156, expired 157, failure 158);
+layout!(Expiry: 8, 4; count 0, refusal 4, expired 5, failure 6);
 const _: () = assert!(size_of::<bool>() == 1 && align_of::<bool>() == 1);
+// the archive reads a timer as words
+const _: () = assert!(cfg!(target_endian = "little"));
 
 // SAFETY: the signatures are those of the header, which are those of the Rattle sources (tools/sources). Those marked `safe` are safe for every
 // argument of these types: each is proved to return and to stay in the memory that is lent to it, whatever the bytes of the struct are (every
-// bit pattern of a mirrored struct is a value of it, here and there), and none keeps a pointer or touches anything global. A `&mut Sender` is
-// lent to nobody else meanwhile, and a `&Sender` is a `const girdermoth_sender *`, which is only read.
+// bit pattern of a mirrored struct is a value of it, here and there), and none keeps a pointer or touches anything global. What is lent as `&mut`
+// is lent to nobody else meanwhile, and a `&` is a `const` pointer of the header, through which the archive only reads.
 unsafe extern "C" {
     // ---- a fresh sender, and its streams
     pub(crate) safe fn girdermoth_init(s: &mut Sender, tsn: u32, number: u64) -> Reply;
@@ -236,22 +247,24 @@ unsafe extern "C" {
     pub(crate) safe fn girdermoth_high_threshold(s: &Sender, identifier: u16) -> Reply;
     pub(crate) safe fn girdermoth_statistics(s: &Sender, identifier: u16) -> Counts;
 
-    // ---- the round-trip estimator and the timers: structs of numbers that go in and come back by value
+    // ---- the round-trip estimator: a struct of numbers that goes in and comes back by value
     pub(crate) safe fn girdermoth_rto_new(initial: u64, low: u64, high: u64) -> RtoReply;
     pub(crate) safe fn girdermoth_rto_measure(r: Rto, rtt: u64) -> RtoReply;
     pub(crate) safe fn girdermoth_rto_get(r: Rto) -> u64;
     pub(crate) safe fn girdermoth_rto_reset(r: Rto) -> RtoReply;
     pub(crate) safe fn girdermoth_rto_set(r: Rto, rto: u64, no_update: bool) -> RtoReply;
-    pub(crate) safe fn girdermoth_timers_new(has_init: bool, init: u64, has_data: bool, data: u64, rto_max: u64) -> TimersReply;
-    pub(crate) safe fn girdermoth_timers_next_timeout(t: Timers) -> Reply;
-    pub(crate) safe fn girdermoth_timer_get(t: Timers, timer: usize) -> Reply;
-    pub(crate) safe fn girdermoth_timer_set(t: Timers, timer: usize, is: bool, time: u64) -> TimersReply;
-    pub(crate) safe fn girdermoth_timer_start(t: Timers, timer: usize, clock: u64, interval: u64) -> TimersReply;
-    pub(crate) safe fn girdermoth_timer_restart_if_stale(t: Timers, timer: usize, clock: u64, interval: u64) -> TimersReply;
-    pub(crate) safe fn girdermoth_timer_stop(t: Timers, timer: usize) -> TimersReply;
-    pub(crate) safe fn girdermoth_timer_reset_retrans(t: Timers, timer: usize) -> TimersReply;
-    pub(crate) safe fn girdermoth_timer_suppress_error_count(t: Timers, timer: usize) -> TimersReply;
-    pub(crate) safe fn girdermoth_timer_is_expired(t: Timers, timer: usize, clock: u64) -> TimersReply;
+
+    // ---- the six timers: one struct that the caller owns, and lends to each call as it does a sender
+    pub(crate) safe fn girdermoth_timers_new(s: &mut Timers, has_init: bool, init: u64, has_data: bool, data: u64, rto_max: u64) -> u8;
+    pub(crate) safe fn girdermoth_timers_next_timeout(s: &Timers) -> Reply;
+    pub(crate) safe fn girdermoth_timer_get(s: &Timers, timer: usize) -> Reply;
+    pub(crate) safe fn girdermoth_timer_set(s: &mut Timers, timer: usize, is: bool, time: u64) -> u8;
+    pub(crate) safe fn girdermoth_timer_start(s: &mut Timers, timer: usize, clock: u64, interval: u64) -> u8;
+    pub(crate) safe fn girdermoth_timer_restart_if_stale(s: &mut Timers, timer: usize, clock: u64, interval: u64) -> u8;
+    pub(crate) safe fn girdermoth_timer_stop(s: &mut Timers, timer: usize) -> u8;
+    pub(crate) safe fn girdermoth_timer_reset_retrans(s: &mut Timers, timer: usize) -> u8;
+    pub(crate) safe fn girdermoth_timer_suppress_error_count(s: &mut Timers, timer: usize) -> u8;
+    pub(crate) safe fn girdermoth_timer_is_expired(s: &mut Timers, timer: usize, clock: u64) -> Expiry;
 }
 
 /// With the list as a slice.
