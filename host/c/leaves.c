@@ -8,6 +8,7 @@
 static int bad = 0;
 static long refused = 0;
 static void want(int ok, const char *what) { if (!ok) { bad++; printf("WRONG: %s\n", what); } }
+static void want_of(int ok, const char *what, int call) { if (!ok) { bad++; printf("WRONG: %s in %s\n", what, timer_call_names[call]); } }
 static uint64_t seed = 88172645463325252u;
 static uint64_t rnd(void) { seed ^= seed << 13; seed ^= seed >> 7; seed ^= seed << 17; return seed; }
 static void garbage(void *p, size_t n) { for (size_t i = 0; i < n; i++) ((uint8_t *)p)[i] = rnd() >> 32; }
@@ -63,15 +64,14 @@ static void any_timers(long turn) {
     uint64_t x[4] = {rnd() >> (rnd() % 64), rnd() >> (rnd() % 64), rnd() >> (rnd() % 64), rnd()};
     if (turn / TIMER_CALLS % 2) { x[0] %= GIRDERMOTH_CLOCK_MAX; x[1] %= 70000; x[2] %= 70000; }
     any r = run_timers(t, call, which, x), q = run_timers(&g.t, call, which, x);
-    const char *name = timer_call_names[call];
-    want(memcmp(&r, &q, sizeof r) == 0 && memcmp(t, &g.t, sizeof *t) == 0, name);
-    if (r.part[0] || timer_asks(call)) want(memcmp(t, &was, sizeof was) == 0, name);
-    if (r.part[0]) { refused++; want(r.part[0] <= 12 && !r.part[1] && !r.part[2] && !r.part[3], name); }
+    want_of(memcmp(&r, &q, sizeof r) == 0 && memcmp(t, &g.t, sizeof *t) == 0, "not the same twice", call);
+    if (r.part[0] || timer_asks(call)) want_of(memcmp(t, &was, sizeof was) == 0, "a refusal or a question wrote", call);
+    if (r.part[0]) { refused++; want_of(r.part[0] <= 12 && !r.part[1] && !r.part[2] && !r.part[3], "a refusal told more", call); }
     if (call != TIMER_CALL_timers_new) {
         if (which < 6) memcpy(&was.entries[which], &t->entries[which], sizeof *was.entries);
-        want(memcmp(t, &was, sizeof was) == 0, name);
+        want_of(memcmp(t, &was, sizeof was) == 0, "more than the named timer changed", call);
     }
-    for (int i = 0; i < 8; i++) want(g.front[i] == 0xA5A5A5A5A5A5A5A5u && g.back[i] == 0xA5A5A5A5A5A5A5A5u, name);
+    for (int i = 0; i < 8; i++) want_of(g.front[i] == 0xA5A5A5A5A5A5A5A5u && g.back[i] == 0xA5A5A5A5A5A5A5A5u, "a canary", call);
     free(t);
 }
 
