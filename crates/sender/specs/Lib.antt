@@ -1,3 +1,6 @@
--- Sizes: a sender of 01's sizes has 01's room. Value: what a sender by value means.
+-- Sizes: a sender of 01's sizes has 01's room. Value: what a sender by value means. Runs: calls of a face, one after the other. Reached: the
+-- sender by value behind any calls.
 pub mod Sizes
 pub mod Value
+pub mod Runs
+pub mod Reached

@@ -1,0 +1,49 @@
+-- The lent sender behind any calls.
+use mathlib.Core.Path.{_≡_}
+use mathlib.Core.Bool.{true}
+use mathlib.Core.Option.{some}
+use mathlib.Core.List.{List}
+use Prim.Native.Nat.{ℕ, _≤_, _<_}
+use lib.ListN.{length}
+use Rattle.limits.specs.Limits.{clockMax, tsns}
+use Rattle.model.specs.declared.Chunk.{Chunk}
+use Rattle.model.specs.State as State
+use Rattle.model.specs.State.{nextTsn}
+use Rattle.model.specs.Rings.{head}
+use Rattle.model.specs.Calls.{Call}
+use Rattle.demands.specs.Words.{SomePending}
+use Rattle.demands.specs.Demand3.{sentBy}
+use Rattle.sender_head.specs.Whole.{senderOf, Counted}
+use Rattle.sender.specs.Runs.{Run, AsModel}
+use Rattle.flat.specs.declared.Reply.{Reply}
+use Rattle.flat.specs.declared.Fragment.{Fragment}
+use Rattle.flat.specs.Replies.{fragmentOf}
+use Rattle.lent.specs.declared.Sender.{Sender}
+use Rattle.lent.specs.Says.{Init, Send}
+use Rattle.lent.specs.Called.{Called}
+
+-- the model's sender
+abbrev pub stateOf : Sender → State.Sender
+stateOf s = senderOf (s .head) (s .cells)
+
+-- its counters of bytes are sums
+abbrev pub Sums : Sender → Type 0
+Sums s = Counted (s .head) (s .cells)
+
+-- `girdermoth_init` made a sender of these numbers from any bytes, and these calls led from it to s
+abbrev pub Reached : (tsn number : ℕ) → List Call → Sender → Type 0
+Reached tsn number ks s = (bytes : Sender) × (made : Sender) × (y : Reply) × Init tsn number bytes made y × Run Called ks made s
+
+-- behind any calls of the lent sender its state is the model's, and so demand 3 holds of it
+abbrev pub LentRuns : Type 0
+LentRuns = (tsn number : ℕ) → tsn < tsns → (ks : List Call) (s : Sender) → Reached tsn number ks s → AsModel tsn number ks (stateOf s) (Sums s)
+
+-- demand 3's first sentence: behind any calls, a send with its clock at most 2 ^ 40, something pending and fewer than 255 entries in flight
+-- answers that there is a chunk, with the next TSN, and it is the one at the head
+abbrev pub YieldsBelow255 : Type 0
+YieldsBelow255 =
+    (tsn number : ℕ) → tsn < tsns → (ks : List Call) (s s′ : Sender) → Reached tsn number ks s
+    → (clock : ℕ) → clock ≤ clockMax → SomePending (stateOf s) → length (stateOf s .flight .entries) < 255
+    → (y : Fragment) → Send clock s s′ y
+    → (y .some ≡ true) × (y .tsn ≡ nextTsn (stateOf s))
+    × ((d : Chunk) × (head (stateOf s .pending) ≡ some d) × (y ≡ fragmentOf (nextTsn (stateOf s)) (sentBy clock (stateOf s) d)))

@@ -1,0 +1,65 @@
+-- The sender by value behind any calls.
+use mathlib.Core.Path.{_≡_}
+use mathlib.Core.Option.{some}
+use mathlib.Core.List.{List}
+use Prim.Native.Nat.{ℕ, _≤_, _<_}
+use lib.ListN.{length}
+use Rattle.limits.specs.Limits.{room01, clockMax, tsns}
+use Rattle.model.specs.declared.Chunk.{Chunk}
+use Rattle.model.specs.declared.Done.{Done}
+use Rattle.model.specs.declared.Written.{Written}
+use Rattle.model.specs.declared.Released.{Released}
+use Rattle.model.specs.declared.Sent.{Sent}
+use Rattle.model.specs.declared.Expired.{Expired}
+use Rattle.model.specs.declared.TailExpired.{TailExpired}
+use Rattle.model.specs.declared.Abandoned.{Abandoned}
+use Rattle.model.specs.declared.Found.{Found}
+use Rattle.model.specs.State.{fresh, nextTsn}
+use Rattle.model.specs.Streams.{openStream, setReliability, setLow, setHigh, release}
+use Rattle.model.specs.Messages.{write}
+use Rattle.model.specs.Rings.{head, startLifetimes, send, expirePending, expirePendingTail, abandon}
+use Rattle.model.specs.Flight.{acknowledge, pop, markAll}
+use Rattle.model.specs.Calls.{Call, Open, SetReliability, SetLow, SetHigh, Write, Release, StartLifetimes, Send, ExpirePending, ExpirePendingTail, Abandon, Acknowledge, Pop, MarkAll, Ask}
+use Rattle.demands.specs.Words.{SomePending}
+use Rattle.demands.specs.Demand3.{sentBy}
+use Rattle.outbound_send.specs.Lean.{leanStart, leanSend}
+use Rattle.outbound_abandon.specs.Lean.{leanAbandon}
+use Rattle.outbound_abandon.specs.LeanExpiry.{leanExpire, leanExpireTail}
+use Rattle.sender.specs.declared.Sender.{Sender}
+use Rattle.sender.specs.Value.{stateOf, Sums, Goes, Leans}
+use Rattle.sender.specs.Runs.{Run, AsModel}
+
+-- what the function of each call promises of the sender that goes in and of the one that comes back; a question gives none back
+abbrev pub Called : Call → (s s′ : Sender) → Type 0
+Called (Open id m) s s′ = (a : Done) × Goes (openStream room01 id m) s s′ a
+Called (SetReliability id u k v) s s′ = (a : Done) × Goes (setReliability id u k v) s s′ a
+Called (SetLow id x) s s′ = (a : Done) × Goes (setLow id x) s s′ a
+Called (SetHigh id x) s s′ = (a : Done) × Goes (setHigh id x) s s′ a
+Called (Write id p o l) s s′ = (a : Written) × Goes (write room01 id p o l) s s′ a
+Called (Release id r) s s′ = (a : Released) × Goes (release id r) s s′ a
+Called (StartLifetimes clock) s s′ = (a : Done) × Leans (leanStart clock) (startLifetimes clock) s s′ a
+Called (Send clock) s s′ = (a : Sent) × Leans (leanSend room01 clock) (send room01 clock) s s′ a
+Called (ExpirePending clock) s s′ = (a : Expired) × Leans (leanExpire clock) (expirePending clock) s s′ a
+Called (ExpirePendingTail clock) s s′ = (a : TailExpired) × Leans (leanExpireTail room01 clock) (expirePendingTail clock) s s′ a
+Called (Abandon t) s s′ = (a : Abandoned) × Leans (leanAbandon room01 t) (abandon t) s s′ a
+Called (Acknowledge t) s s′ = (a : ℕ) × Goes (acknowledge t) s s′ a
+Called (Pop t) s s′ = (a : Found) × Goes (pop t) s s′ a
+Called MarkAll s s′ = (stateOf s′ ≡ markAll (stateOf s)) × (Sums s → Sums s′)
+Called (Ask q) s s′ = s′ ≡ s
+
+-- `new` made a sender of these numbers, and these calls led from it to s
+abbrev pub Reached : (tsn number : ℕ) → List Call → Sender → Type 0
+Reached tsn number ks s = (made : Sender) × ((stateOf made ≡ fresh tsn number) × Sums made) × Run Called ks made s
+
+-- behind any calls of the sender by value its state is the model's, and so demand 3 holds of it
+abbrev pub ValueRuns : Type 0
+ValueRuns = (tsn number : ℕ) → tsn < tsns → (ks : List Call) (s : Sender) → Reached tsn number ks s → AsModel tsn number ks (stateOf s) (Sums s)
+
+-- demand 3's first sentence: behind any calls, a send with its clock at most 2 ^ 40, something pending and fewer than 255 entries in flight
+-- yields the chunk at the head, with the next TSN
+abbrev pub YieldsBelow255 : Type 0
+YieldsBelow255 =
+    (tsn number : ℕ) → tsn < tsns → (ks : List Call) (s s′ : Sender) → Reached tsn number ks s
+    → (clock : ℕ) → clock ≤ clockMax → SomePending (stateOf s) → length (stateOf s .flight .entries) < 255
+    → (a : Sent) → Leans (leanSend room01 clock) (send room01 clock) s s′ a
+    → (d : Chunk) × (head (stateOf s .pending) ≡ some d) × (a ≡ Sent.Yielded (nextTsn (stateOf s)) (sentBy clock (stateOf s) d))
