@@ -123,17 +123,6 @@ pub fn refusal(out: &mut [u8], at: usize, n: u8) -> usize {
 
 // ---- a chunk
 
-fn bit(yes: bool, worth: u8) -> u8 {
-    if yes { worth } else { 0 }
-}
-
-fn flags(chunk: Chunk) -> u8 {
-    let ending = bit(chunk.ending, 1);
-    let beginning = bit(chunk.beginning, 2);
-    let unordered = bit(chunk.message.unordered, 4);
-    ending | beginning | unordered
-}
-
 // The five payload types of the Rust by number, and every other by a word.
 fn protocol(out: &mut [u8], at: usize, n: u32) -> usize {
     match n {
@@ -170,7 +159,7 @@ fn head_of(out: &mut [u8], at: usize, tsn: u32, chunk: Chunk) -> usize {
     let p1 = number(out, at, b"tsn=", tsn as u64);
     let p2 = number(out, p1, b" sid=", chunk.message.stream as u64);
     let p3 = number(out, p2, b" ssn=", chunk.message.ssn as u64);
-    number(out, p3, b" flags=", flags(chunk) as u64)
+    number(out, p3, b" flags=", chunk_flags::flags_of(chunk) as u64)
 }
 
 fn message_of(out: &mut [u8], at: usize, chunk: Chunk) -> usize {

@@ -211,11 +211,13 @@ fn no_fragment(number: u8) -> Fragment
 pub fn sent(a: Sent) -> Fragment
     ensures { λ r. ⌜ r ≡ flatSent a ⌝ }
 {
-    match a {
-        Sent::Yielded(tsn, c) => of_chunk(tsn, c),
-        Sent::Nothing => no_fragment(0),
-        Sent::Refused(n) => no_fragment(n),
-    }
+    let Sent::Yielded(tsn, c) = a else {
+        if let Sent::Refused(n) = a {
+            return no_fragment(n);
+        }
+        return no_fragment(0);
+    };
+    of_chunk(tsn, c)
 }
 
 // `tsn` is the entry's, or 0 for a chunk that has none yet.

@@ -16,21 +16,13 @@ fn refusal(number: u8) {
     show::line();
 }
 
-fn flag(set: bool, octet: u64) -> u64 {
-    if set {
-        return octet;
-    }
-    0
-}
-
-// The flags are RFC 9260's octet: E 1, B 2, U 4.
 fn row(tsn: u32, c: Chunk) {
     let shared = c.message;
-    let flags = flag(c.ending, 1) | flag(c.beginning, 2) | flag(shared.unordered, 4);
+    let flags = chunk_flags::flags_of(c);
     show::number(b"", tsn as u64);
     show::number(b" ", shared.stream as u64);
     show::number(b" ", shared.ssn as u64);
-    show::number(b" ", flags);
+    show::number(b" ", flags as u64);
     show::number(b" ", c.length as u64);
     show::line();
 }
