@@ -159,7 +159,7 @@ fn head_of(out: &mut [u8], at: usize, tsn: u32, chunk: Chunk) -> usize {
     let p1 = number(out, at, b"tsn=", tsn as u64);
     let p2 = number(out, p1, b" sid=", chunk.message.stream as u64);
     let p3 = number(out, p2, b" ssn=", chunk.message.ssn as u64);
-    number(out, p3, b" flags=", chunk_flags::flags_of(chunk) as u64)
+    number(out, p3, b" flags=", stream::flags::octet(chunk) as u64)
 }
 
 fn message_of(out: &mut [u8], at: usize, chunk: Chunk) -> usize {

@@ -13,7 +13,7 @@ fn worth(set: bool, bit: u8) -> u8
 }
 
 // E 1, B 2, U 4.
-pub fn flags_of(chunk: Chunk) -> u8
+pub fn octet(chunk: Chunk) -> u8
     ensures { λ r. ⌜ r ≡ flags chunk ⌝ }
 {
     let message = chunk.message;
