@@ -1,7 +1,7 @@
 -- By the call: its row is computed, and an argument that fits is the same modulo what it can be.
 use mathlib.Core.Path.{_≡_, refl}
 use mathlib.Core.Bool.{Bool, true, false}
-use Prim.Native.Nat.{ℕ, _%_, _<_, _≤_, _^_, min}
+use Prim.Native.Nat.{ℕ, _%_, _<_, _^_, min}
 use native.Mathlib.Omega.{arith}
 use native.Mathlib.Nat.{mod-eq-of-lt}
 use lib.Dec.{eqb}
@@ -44,7 +44,7 @@ use Rattle.model.specs.Calls.{
 }
 use Rattle.cells.specs.Words.{bitOf}
 use Rattle.coded_calls.specs.Coded.{callOf}
-use Rattle.coded_calls.specs.Onto.{ReleaseFits, QueryFits, CallFits, eight, releaseWords, queryWords, WordsFit, HasWords, CallsHaveWords}
+use Rattle.coded_calls.specs.Onto.{ReleaseFits, QueryFits, eight, releaseWords, queryWords, HasWords, CallsHaveWords}
 
 flag : (b : Bool) → eqb (bitOf b % 2) 1 ≡ b
 flag true = refl

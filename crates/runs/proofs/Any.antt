@@ -1,13 +1,13 @@
 -- By induction on the calls, and on the answers.
 use mathlib.Core.Path.{_≡_, refl, sym, ap, subst, _∙_}
 use mathlib.Core.List.{List, [], _∷_, _++_, append-assoc}
-use Prim.Native.Nat.{ℕ, zero, suc, _+_, _-_, _*_, _/_, _%_, _≤_}
+use Prim.Native.Nat.{ℕ, zero, suc, _+_, _-_, _*_, _/_, _≤_}
 use native.Mathlib.Omega.{arith}
 use lib.ListN.{length, take, drop, length-append, length-drop}
 use lib.Seq.{sets, sets-eq, take-all, take-append-le, drop-append-le, drop-append-add}
 use Rattle.limits.specs.Limits.{Room}
 use Rattle.model.specs.State.{Sender}
-use Rattle.model.specs.Calls.{Call, Answer, step, answers}
+use Rattle.model.specs.Calls.{Call, step, answers}
 use Rattle.rows.specs.Parts.{part}
 use Rattle.coded_calls.specs.Coded.{callOf}
 use Rattle.coded_calls.specs.Words.{words}
@@ -15,8 +15,8 @@ use Rattle.coded_calls.specs.Onto.{wordsOf, WordsFit}
 use Rattle.coded_calls.specs.Back.{Read}
 use Rattle.coded_calls.proofs.Onto.{calls-have-words}
 use Rattle.coded_calls.proofs.Back.{words-tell}
-use Rattle.runs.specs.Runs.{callsFrom, callsIn, allWords}
-use Rattle.runs.specs.Any.{CallsJoin, wordsOfAll, EveryListHasWords, Reads, reads, readAll, Taped, TapeTells, RunTells, AnyListIsTold}
+use Rattle.runs.specs.Runs.{callsFrom, callsIn, allWords, Taped}
+use Rattle.runs.specs.Any.{CallsJoin, wordsOfAll, EveryListHasWords, Reads, reads, readAll, TapeTells, RunTells, AnyListIsTold}
 
 -- ---- the words of a list of calls
 

@@ -3,14 +3,13 @@ use mathlib.Core.Path.{_≡_}
 use mathlib.Core.List.{List, [], _∷_, _++_}
 use Prim.Native.Nat.{ℕ, zero, suc, _*_, _%_, _≤_}
 use lib.ListN.{length, drop}
-use lib.Seq.{sets}
 use Rattle.limits.specs.Limits.{Room}
 use Rattle.model.specs.State.{Sender}
 use Rattle.model.specs.Calls.{Call, Answer, answers}
 use Rattle.demands.specs.Words.{Each}
 use Rattle.coded_calls.specs.Onto.{CallFits, wordsOf, WordsFit}
 use Rattle.coded_calls.specs.Back.{readBack}
-use Rattle.runs.specs.Runs.{callsIn, allWords}
+use Rattle.runs.specs.Runs.{callsIn, allWords, Taped}
 
 -- ---- the words of a list of calls
 
@@ -40,6 +39,7 @@ pub record Reads : Type 0 where
   pub answers : List Answer
   pub rest : List ℕ
 
+-- the two together
 abbrev pub reads : List Answer → List ℕ → Reads
 reads xs ws = record { answers = xs; rest = ws }
 
@@ -52,15 +52,11 @@ readAll (suc n) ws = reads (readBack ws .answer ∷ readAll n (readBack ws .rest
 abbrev pub TapeTells : Type 0
 TapeTells = (xs : List Answer) (us : List ℕ) → readAll (length xs) (allWords xs ++ us) ≡ reads xs us
 
--- what the contract of `run` says of the tape: the model's answers stand on it
-abbrev pub Taped : (room : Room) → List Call → Sender → (before after : List ℕ) → Type 0
-Taped room ks s before after = after ≡ sets before 0 (allWords (answers room ks s))
-
--- and whether the tape is as long as all their words
+-- a tape is as long as all the words of the answers
 abbrev pub HasRoom : (room : Room) → List Call → Sender → (tape : List ℕ) → Type 0
 HasRoom room ks s tape = length (allWords (answers room ks s)) ≤ length tape
 
--- then an answer for each call is read from it, they are the model's, and behind them the tape is as it was
+-- then an answer for each call is read from the tape that `run` leaves, they are the model's, and behind them it is as it was
 abbrev pub RunTells : Type 0
 RunTells = (room : Room) (ks : List Call) (s : Sender) (before after : List ℕ) → Taped room ks s before after → HasRoom room ks s before
     → readAll (length ks) after ≡ reads (answers room ks s) (drop (length (allWords (answers room ks s))) before)

@@ -13,7 +13,7 @@ use Rattle.cells.specs.Slots.{limit}
 use Rattle.sender_head.specs.Whole.{tableWords, halves, roomIn}
 use Rattle.coded_calls.specs.Coded.{callOf}
 use Rattle.coded_calls.specs.Words.{words}
-use Rattle.runs.specs.Runs.{callsFrom, callsIn, allWords, After}
+use Rattle.runs.specs.Runs.{callsFrom, callsIn, allWords, After, Taped}
 
 -- From s₀ the calls so far have led to s, and the tape, which was ws₀, is ws. `ks` are still to come, of `all`.
 pub record Going (room : Room) (s₀ : Sender) (all ks : List Call) (s : Sender) (ws₀ ws : List ℕ) (at : ℕ) : Type 0 where
@@ -85,7 +85,7 @@ stepped {room} {s₀} {s} {t} {all} {ws₀} {ws} {vs} {at} {r} n i coded h g a =
     gone-on (subst (λ (ks : List Call). Going room s₀ all ks s ws₀ ws at) (next-call n i coded h) g) a
 
 pub finished : {room : Room} {s₀ s : Sender} {all : List Call} {ws₀ ws : List ℕ} {at : ℕ} (n i : ℕ) (coded : List ℕ) → n ≤ i
-    → Going room s₀ all (callsFrom (n - i) i coded) s ws₀ ws at → (s ≡ run room all s₀) × (ws ≡ sets ws₀ 0 (allWords (answers room all s₀)))
+    → Going room s₀ all (callsFrom (n - i) i coded) s ws₀ ws at → (s ≡ run room all s₀) × Taped room all s₀ ws₀ ws
 finished {room} {s₀} {s} {all} {ws₀} {ws} {at} n i coded h g =
     let e = subst (λ (ks : List Call). Going room s₀ all ks s ws₀ ws at) (no-call n i coded h) g in (e .ahead, e .told)
 

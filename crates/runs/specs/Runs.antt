@@ -6,7 +6,7 @@ use lib.ListN.{length}
 use lib.Seq.{sets}
 use Rattle.limits.specs.Limits.{Room}
 use Rattle.model.specs.State.{Sender}
-use Rattle.model.specs.Calls.{Call, Answer, step}
+use Rattle.model.specs.Calls.{Call, Answer, step, answers}
 use Rattle.rows.specs.Parts.{part}
 use Rattle.coded_calls.specs.Coded.{callOf}
 use Rattle.coded_calls.specs.Words.{words}
@@ -30,3 +30,7 @@ allWords (a ∷ rest) = words a ++ allWords rest
 pub record After (room : Room) (k : Call) (s t : Sender) (ws vs : List ℕ) (at r : ℕ) : Type 0 where
   pub state : t ≡ step room k s .after
   pub tape : (us : List ℕ) → sets vs r us ≡ sets ws at (words (step room k s .says) ++ us)
+
+-- behind a list of calls, as the contract of `run` has it: all answers of the model stand on the tape from its start on, as far as it goes
+abbrev pub Taped : (room : Room) → List Call → Sender → (before after : List ℕ) → Type 0
+Taped room ks s before after = after ≡ sets before 0 (allWords (answers room ks s))
