@@ -1,8 +1,9 @@
--- 01's number and the values of each answer's case, flat. What a case does not have is 0.
-use mathlib.Core.Bool.{Bool, true, false}
+-- What is told of each answer (`Told` of the model), flat: the number, and the values by their places. What a case does not have is 0.
+use mathlib.Core.Bool.{Bool, false}
 use Prim.Native.Nat.{ℕ}
+use lib.ListN.{drop}
 pub use Rattle.limits.specs.Moments.{present, timeOf}
-use Rattle.limits.specs.Refusals.{done}
+use Rattle.limits.specs.Told.{Told, tells, refusing, tellsFlag, tellsNumber, valueAt, flagAt, given}
 use Rattle.model.specs.declared.Chunk.{Chunk}
 use Rattle.model.specs.declared.Done.{Done}
 use Rattle.model.specs.declared.Written.{Written}
@@ -16,6 +17,8 @@ use Rattle.model.specs.declared.Listed.{Listed}
 use Rattle.model.specs.declared.Earliest.{Earliest}
 use Rattle.model.specs.declared.Amount.{Amount}
 use Rattle.model.specs.declared.Counted.{Counted}
+use Rattle.model.specs.Lists.{if_then_else_}
+use Rattle.model.specs.Told.{chunkValues, toldDone, toldWritten, toldReleased, toldListed, toldEarliest, toldAmount, toldCounted, toldSent, toldFound, toldExpired, toldTail, toldAbandoned}
 use Rattle.flat.specs.declared.Reply.{Reply}
 use Rattle.flat.specs.declared.Freed.{Freed}
 use Rattle.flat.specs.declared.Fragment.{Fragment}
@@ -23,129 +26,121 @@ use Rattle.flat.specs.declared.Counts.{Counts}
 
 -- ---- numbers, yes and no
 
+-- 01's number, and yes or no
+abbrev pub yesNoIn : Told → Reply
+yesNoIn t = record { value = 0; refusal = t .number; yes = flagAt 0 t }
+
+-- 01's number, and a number where there is one
+abbrev pub numberIn : Told → Reply
+numberIn t = record { value = valueAt 0 t; refusal = t .number; yes = given t }
+
 -- 01's number alone
 abbrev pub onlyNumber : ℕ → Reply
-onlyNumber n = record { value = 0; refusal = n; yes = false }
+onlyNumber n = numberIn (refusing n)
 
 abbrev pub yesOrNo : Bool → Reply
-yesOrNo b = record { value = 0; refusal = done; yes = b }
+yesOrNo b = yesNoIn (tellsFlag b)
 
 -- there is a number
 abbrev pub numberIs : ℕ → Reply
-numberIs n = record { value = n; refusal = done; yes = true }
+numberIs n = numberIn (tellsNumber n)
 
 abbrev pub flatDone : Done → Reply
-flatDone Done.Done = onlyNumber done
-flatDone (Done.Refused n) = onlyNumber n
+flatDone a = numberIn (toldDone a)
 
 abbrev pub flatWritten : Written → Reply
-flatWritten (Written.Accepted high) = yesOrNo high
-flatWritten (Written.Refused n) = onlyNumber n
+flatWritten a = yesNoIn (toldWritten a)
 
 abbrev pub flatReleased : Released → Reply
-flatReleased (Released.Told low) = yesOrNo low
-flatReleased (Released.Refused n) = onlyNumber n
+flatReleased a = yesNoIn (toldReleased a)
 
 abbrev pub flatListed : Listed → Reply
-flatListed (Listed.Count n) = numberIs n
-flatListed (Listed.Refused n) = onlyNumber n
+flatListed a = numberIn (toldListed a)
 
 abbrev pub flatEarliest : Earliest → Reply
-flatEarliest (Earliest.Tsn t) = numberIs t
-flatEarliest Earliest.Nothing = onlyNumber done
+flatEarliest a = numberIn (toldEarliest a)
 
 abbrev pub flatAmount : Amount → Reply
-flatAmount (Amount.Is n) = numberIs n
-flatAmount (Amount.Refused n) = onlyNumber n
+flatAmount a = numberIn (toldAmount a)
+
+-- 01's number, and the messages and the bytes
+abbrev pub countsIn : Told → Counts
+countsIn t = record { messages = valueAt 0 t; bytes = valueAt 1 t; refusal = t .number }
 
 abbrev pub flatCounted : Counted → Counts
-flatCounted (Counted.Are x) = record { messages = x .messages; bytes = x .bytes; refusal = done }
-flatCounted (Counted.Refused n) = record { messages = 0; bytes = 0; refusal = n }
+flatCounted a = countsIn (toldCounted a)
 
 -- ---- chunks
 
--- with these for its two moments
-abbrev pub fragmentWith : (tsn : ℕ) → Chunk → (until : Bool) → (deadline : ℕ) → (sent : Bool) → (since : ℕ) → Fragment
-fragmentWith t c p d q s =
+-- 01's number, and the chunk of this TSN by the places of `chunkValues`; with no chunk there is no TSN
+abbrev pub fragmentIn : (tsn : ℕ) → Told → Fragment
+fragmentIn tsn t =
     record {
-      number = c .message .number;
-      offset = c .offset;
-      deadline = d;
-      since = s;
-      tsn = t;
-      length = c .length;
-      protocol = c .message .protocol;
-      value = c .message .reliability .value;
-      nsent = c .nsent;
-      stream = c .message .stream;
-      ssn = c .message .ssn;
-      kind = c .message .reliability .kind;
-      refusal = done;
-      some = true;
-      «has_deadline» = p;
-      «has_since» = q;
-      unordered = c .message .unordered;
-      beginning = c .beginning;
-      ending = c .ending;
-      acked = c .acked;
-      abandoned = c .abandoned;
-      retransmit = c .retransmit;
+      number = valueAt 4 t;
+      offset = valueAt 9 t;
+      deadline = valueAt 8 t;
+      since = valueAt 14 t;
+      tsn = if given t then tsn else 0;
+      length = valueAt 10 t;
+      protocol = valueAt 3 t;
+      value = valueAt 6 t;
+      nsent = valueAt 15 t;
+      stream = valueAt 0 t;
+      ssn = valueAt 1 t;
+      kind = valueAt 5 t;
+      refusal = t .number;
+      some = given t;
+      «has_deadline» = flagAt 7 t;
+      «has_since» = flagAt 13 t;
+      unordered = flagAt 2 t;
+      beginning = flagAt 11 t;
+      ending = flagAt 12 t;
+      acked = flagAt 16 t;
+      abandoned = flagAt 17 t;
+      retransmit = flagAt 18 t;
     }
 
+-- a chunk of this TSN
 abbrev pub fragmentOf : (tsn : ℕ) → Chunk → Fragment
-fragmentOf t c = fragmentWith t c (present (c .message .deadline)) (timeOf (c .message .deadline)) (present (c .since)) (timeOf (c .since))
+fragmentOf tsn c = fragmentIn tsn (tells (chunkValues c))
 
 abbrev pub noFragment : ℕ → Fragment
-noFragment n =
-    record {
-      number = 0;
-      offset = 0;
-      deadline = 0;
-      since = 0;
-      tsn = 0;
-      length = 0;
-      protocol = 0;
-      value = 0;
-      nsent = 0;
-      stream = 0;
-      ssn = 0;
-      kind = 0;
-      refusal = n;
-      some = false;
-      «has_deadline» = false;
-      «has_since» = false;
-      unordered = false;
-      beginning = false;
-      ending = false;
-      acked = false;
-      abandoned = false;
-      retransmit = false;
-    }
+noFragment n = fragmentIn 0 (refusing n)
 
+-- what is told behind the first value
+abbrev pub behindFirst : Told → Told
+behindFirst t = record { number = t .number; values = drop 1 (t .values) }
+
+-- the TSN is the first value, and the chunk stands behind it
 abbrev pub flatSent : Sent → Fragment
-flatSent (Sent.Yielded t c) = fragmentOf t c
-flatSent Sent.Nothing = noFragment done
-flatSent (Sent.Refused n) = noFragment n
+flatSent a = fragmentIn (valueAt 0 (toldSent a)) (behindFirst (toldSent a))
 
 abbrev pub flatFound : (tsn : ℕ) → Found → Fragment
-flatFound t (Found.One c) = fragmentOf t c
-flatFound t Found.Nothing = noFragment done
+flatFound tsn a = fragmentIn tsn (toldFound a)
 
 -- ---- what an expiry or an abandonment freed
 
+-- stream, U, bytes
+abbrev pub expiredIn : Told → Freed
+expiredIn t = record { number = 0; bytes = valueAt 2 t; stream = valueAt 0 t; refusal = t .number; some = given t; unordered = flagAt 1 t }
+
+-- with nothing but 01's number
 abbrev pub noneFreed : ℕ → Freed
-noneFreed n = record { number = 0; bytes = 0; stream = 0; refusal = n; some = false; unordered = false }
+noneFreed n = expiredIn (refusing n)
 
 abbrev pub flatExpired : Expired → Freed
-flatExpired (Expired.Message i u b) = record { number = 0; bytes = b; stream = i; refusal = done; some = true; unordered = u }
-flatExpired Expired.Nothing = noneFreed done
-flatExpired (Expired.Refused n) = noneFreed n
+flatExpired a = expiredIn (toldExpired a)
+
+-- stream, message number, bytes
+abbrev pub tailIn : Told → Freed
+tailIn t = record { number = valueAt 1 t; bytes = valueAt 2 t; stream = valueAt 0 t; refusal = t .number; some = given t; unordered = false }
 
 abbrev pub flatTail : TailExpired → Freed
-flatTail (TailExpired.Message i m b) = record { number = m; bytes = b; stream = i; refusal = done; some = true; unordered = false }
-flatTail TailExpired.Nothing = noneFreed done
-flatTail (TailExpired.Refused n) = noneFreed n
+flatTail a = tailIn (toldTail a)
+
+-- stream, bytes
+abbrev pub abandonedIn : Told → Freed
+abandonedIn t = record { number = 0; bytes = valueAt 1 t; stream = valueAt 0 t; refusal = t .number; some = given t; unordered = false }
 
 abbrev pub flatAbandoned : Abandoned → Freed
-flatAbandoned (Abandoned.Message i b) = record { number = 0; bytes = b; stream = i; refusal = done; some = true; unordered = false }
-flatAbandoned Abandoned.Nothing = noneFreed done
+flatAbandoned a = abandonedIn (toldAbandoned a)

@@ -5,7 +5,6 @@ use mathlib.Core.List.{List, [], _∷_, _++_}
 use lib.ListN.{length}
 use lib.IntN.{ℤ}
 use Rattle.limits.specs.Limits.{Room}
-use Rattle.limits.specs.Refusals as Refusals
 use Rattle.model.specs.declared.Chunk.{Chunk}
 use Rattle.model.specs.declared.Done.{Done}
 use Rattle.model.specs.declared.Written.{Written}
@@ -18,10 +17,11 @@ use Rattle.model.specs.declared.Found.{Found}
 use Rattle.model.specs.declared.Earliest.{Earliest}
 use Rattle.model.specs.declared.Amount.{Amount}
 use Rattle.model.specs.declared.Counted.{Counted}
+use Rattle.model.specs.Told.{Told, tellsFlag, tellsNumber, toldDone, toldWritten, toldReleased, toldSent, toldExpired, toldTail, toldAbandoned, toldFound, toldEarliest, toldAmount, toldCounted, toldListing}
 use Rattle.model.specs.State.{Sender, nextTsn, inFlight, Out, same}
 use Rattle.model.specs.Streams.{find, openStream, setReliability, setLow, setHigh, release, amount, counts}
 use Rattle.model.specs.Messages.{write}
-use Rattle.model.specs.Rings.{head, startLifetimes, send, expirePending, expirePendingTail, abandon, bytes, Listing, tsnsAre, refused, expiredInflight}
+use Rattle.model.specs.Rings.{head, startLifetimes, send, expirePending, expirePendingTail, abandon, bytes, Listing, expiredInflight}
 use Rattle.model.specs.Flight.{acknowledge, found, pop, markAll, isAbandoned, hasStream, earliestOutstanding}
 
 -- what changes nothing
@@ -98,35 +98,27 @@ step room (Pop t) s = told toFind (pop t s)
 step room MarkAll s = record { after = markAll s; says = toDo Done.Done }
 step room (Ask q) s = same (answer q s) s
 
--- ---- 01's number of an answer, and the chunk that it yields
+-- ---- 01's number and values of an answer, and the chunk that it yields
 
+abbrev pub toldOf : Answer → Told
+toldOf (toDo a) = toldDone a
+toldOf (toWrite a) = toldWritten a
+toldOf (toRelease a) = toldReleased a
+toldOf (toSend a) = toldSent a
+toldOf (toExpire a) = toldExpired a
+toldOf (toExpireTail a) = toldTail a
+toldOf (toAbandon a) = toldAbandoned a
+toldOf (toFind a) = toldFound a
+toldOf (toSeek a) = toldEarliest a
+toldOf (toMeasure a) = toldAmount a
+toldOf (toCount a) = toldCounted a
+toldOf (toList a) = toldListing a
+toldOf (number x) = tellsNumber x
+toldOf (yesNo b) = tellsFlag b
+
+-- the number alone
 abbrev pub numberOf : Answer → ℕ
-numberOf (toDo Done.Done) = Refusals.done
-numberOf (toDo (Done.Refused n)) = n
-numberOf (toWrite (Written.Accepted high)) = Refusals.done
-numberOf (toWrite (Written.Refused n)) = n
-numberOf (toRelease (Released.Told low)) = Refusals.done
-numberOf (toRelease (Released.Refused n)) = n
-numberOf (toSend (Sent.Yielded t c)) = Refusals.done
-numberOf (toSend Sent.Nothing) = Refusals.done
-numberOf (toSend (Sent.Refused n)) = n
-numberOf (toExpire (Expired.Message i u b)) = Refusals.done
-numberOf (toExpire Expired.Nothing) = Refusals.done
-numberOf (toExpire (Expired.Refused n)) = n
-numberOf (toExpireTail (TailExpired.Message i m b)) = Refusals.done
-numberOf (toExpireTail TailExpired.Nothing) = Refusals.done
-numberOf (toExpireTail (TailExpired.Refused n)) = n
-numberOf (toAbandon a) = Refusals.done
-numberOf (toFind c) = Refusals.done
-numberOf (toSeek t) = Refusals.done
-numberOf (toMeasure (Amount.Is x)) = Refusals.done
-numberOf (toMeasure (Amount.Refused n)) = n
-numberOf (toCount (Counted.Are x)) = Refusals.done
-numberOf (toCount (Counted.Refused n)) = n
-numberOf (toList (tsnsAre l)) = Refusals.done
-numberOf (toList (refused n)) = n
-numberOf (number x) = Refusals.done
-numberOf (yesNo b) = Refusals.done
+numberOf a = toldOf a .number
 
 abbrev pub yieldedBy : Sent → List Chunk
 yieldedBy (Sent.Yielded t c) = c ∷ []

@@ -7,5 +7,6 @@ pub mod Streams
 pub mod Messages
 pub mod Rings
 pub mod Flight
+pub mod Told
 pub mod Calls
 pub mod Scenes

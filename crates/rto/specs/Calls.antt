@@ -7,17 +7,17 @@ use mathlib.Core.List.{List, [], _∷_}
 use Rattle.limits.specs.Refusals.{beyondLimit, badBounds}
 use Rattle.rto.specs.declared.RtoManager.{RtoManager}
 use Rattle.rto.specs.declared.Made.{Made}
-use Rattle.rto.specs.declared.Made.the-variants.{Ready, Refused as Made-Refused}
+use Rattle.rto.specs.declared.Made.the-variants.{Refused as Made-Refused}
 use Rattle.rto.specs.declared.Measured.{Measured}
 use Rattle.rto.specs.declared.Measured.the-variants.{Srtt, Refused as Measured-Refused}
 use Rattle.rto.specs.declared.Set.{Set}
 use Rattle.rto.specs.declared.Set.the-variants.{Kept, Refused as Set-Refused}
+use Rattle.rto.specs.Told.{Told, tells, refusing, toldMade, toldMeasured, toldSet}
 use Rattle.rto.specs.Rto.{newOf, measuredOf, getOf, resetOf, setOf}
 
 -- 01's number for a creation: 0 is done, and a manager comes with it
 abbrev pub numberOf : Made → ℕ
-numberOf (Ready t) = 0
-numberOf (Made-Refused n) = n
+numberOf a = toldMade a .number
 
 -- creation with these settings is done
 abbrev pub Accepted : ℕ → ℕ → ℕ → Type 0
@@ -36,23 +36,27 @@ pub record Outcome : Type 0 where
   pub values : List ℕ
   pub state : RtoManager
 
+-- what is told, and this state
+abbrev pub telling : Told → RtoManager → Outcome
+telling x t = record { number = x .number; values = x .values; state = t }
+
 -- number 0, with these values and this state
 abbrev pub done : List ℕ → RtoManager → Outcome
-done vs t = record { number = 0; values = vs; state = t }
+done vs = telling (tells vs)
 
 -- a refusal gives its number only; the state stays
 abbrev pub refused : ℕ → RtoManager → Outcome
-refused n t = record { number = n; values = []; state = t }
+refused n = telling (refusing n)
 
 -- a measurement in the state t: srtt is its value
 abbrev pub ofMeasured : RtoManager → Measured → Outcome
-ofMeasured t (Srtt s u) = done (s ∷ []) u
-ofMeasured t (Measured-Refused n) = refused n t
+ofMeasured t (Srtt s u) = telling (toldMeasured (Srtt s u)) u
+ofMeasured t (Measured-Refused n) = telling (toldMeasured (Measured-Refused n)) t
 
 -- `set_rto` in the state t
 abbrev pub ofSet : RtoManager → Set → Outcome
-ofSet t (Kept u) = done [] u
-ofSet t (Set-Refused n) = refused n t
+ofSet t (Kept u) = telling (toldSet (Kept u)) u
+ofSet t (Set-Refused n) = telling (toldSet (Set-Refused n)) t
 
 -- a call in the state t
 abbrev pub outcome : RtoManager → Call → Outcome

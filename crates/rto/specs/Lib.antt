@@ -1,6 +1,7 @@
 -- Document 01's estimator.
 pub mod Rto
 -- What a run of calls on the estimator does, and what is claimed of it.
+pub mod Told
 pub mod Calls
 pub mod Exact
 pub mod Range

@@ -20,6 +20,7 @@ use Rattle.model.specs.Messages.{write}
 use Rattle.model.specs.Rings.{head, startLifetimes, send, expirePending, expirePendingTail, abandon}
 use Rattle.model.specs.Flight.{acknowledge, pop, markAll}
 use Rattle.model.specs.Calls.{Call, Open, SetReliability, SetLow, SetHigh, Write, Release, StartLifetimes, Send, ExpirePending, ExpirePendingTail, Abandon, Acknowledge, Pop, MarkAll, Ask}
+use Rattle.model.specs.Told.{toldDone, toldWritten, toldReleased, toldSent, toldExpired, toldTail, toldAbandoned, toldFound, tellsNumber}
 use Rattle.demands.specs.Words.{SomePending}
 use Rattle.demands.specs.Demand3.{sentBy}
 use Rattle.outbound_send.specs.Lean.{leanStart, leanSend}
@@ -31,19 +32,19 @@ use Rattle.sender.specs.Runs.{Run, AsModel}
 
 -- what the function of each call promises of the sender that goes in and of the one that comes back; a question gives none back
 abbrev pub Called : Call → (s s′ : Sender) → Type 0
-Called (Open id m) s s′ = (a : Done) × Goes (openStream room01 id m) s s′ a
-Called (SetReliability id u k v) s s′ = (a : Done) × Goes (setReliability id u k v) s s′ a
-Called (SetLow id x) s s′ = (a : Done) × Goes (setLow id x) s s′ a
-Called (SetHigh id x) s s′ = (a : Done) × Goes (setHigh id x) s s′ a
-Called (Write id p o l) s s′ = (a : Written) × Goes (write room01 id p o l) s s′ a
-Called (Release id r) s s′ = (a : Released) × Goes (release id r) s s′ a
-Called (StartLifetimes clock) s s′ = (a : Done) × Leans (leanStart clock) (startLifetimes clock) s s′ a
-Called (Send clock) s s′ = (a : Sent) × Leans (leanSend room01 clock) (send room01 clock) s s′ a
-Called (ExpirePending clock) s s′ = (a : Expired) × Leans (leanExpire clock) (expirePending clock) s s′ a
-Called (ExpirePendingTail clock) s s′ = (a : TailExpired) × Leans (leanExpireTail room01 clock) (expirePendingTail clock) s s′ a
-Called (Abandon t) s s′ = (a : Abandoned) × Leans (leanAbandon room01 t) (abandon t) s s′ a
-Called (Acknowledge t) s s′ = (a : ℕ) × Goes (acknowledge t) s s′ a
-Called (Pop t) s s′ = (a : Found) × Goes (pop t) s s′ a
+Called (Open id m) s s′ = (a : Done) × Goes toldDone (openStream room01 id m) s s′ a
+Called (SetReliability id u k v) s s′ = (a : Done) × Goes toldDone (setReliability id u k v) s s′ a
+Called (SetLow id x) s s′ = (a : Done) × Goes toldDone (setLow id x) s s′ a
+Called (SetHigh id x) s s′ = (a : Done) × Goes toldDone (setHigh id x) s s′ a
+Called (Write id p o l) s s′ = (a : Written) × Goes toldWritten (write room01 id p o l) s s′ a
+Called (Release id r) s s′ = (a : Released) × Goes toldReleased (release id r) s s′ a
+Called (StartLifetimes clock) s s′ = (a : Done) × Leans toldDone (leanStart clock) (startLifetimes clock) s s′ a
+Called (Send clock) s s′ = (a : Sent) × Leans toldSent (leanSend room01 clock) (send room01 clock) s s′ a
+Called (ExpirePending clock) s s′ = (a : Expired) × Leans toldExpired (leanExpire clock) (expirePending clock) s s′ a
+Called (ExpirePendingTail clock) s s′ = (a : TailExpired) × Leans toldTail (leanExpireTail room01 clock) (expirePendingTail clock) s s′ a
+Called (Abandon t) s s′ = (a : Abandoned) × Leans toldAbandoned (leanAbandon room01 t) (abandon t) s s′ a
+Called (Acknowledge t) s s′ = (a : ℕ) × Goes tellsNumber (acknowledge t) s s′ a
+Called (Pop t) s s′ = (a : Found) × Goes toldFound (pop t) s s′ a
 Called MarkAll s s′ = (stateOf s′ ≡ markAll (stateOf s)) × (Sums s → Sums s′)
 Called (Ask q) s s′ = s′ ≡ s
 
@@ -61,5 +62,5 @@ abbrev pub YieldsBelow255 : Type 0
 YieldsBelow255 =
     (tsn number : ℕ) → tsn < tsns → (ks : List Call) (s s′ : Sender) → Reached tsn number ks s
     → (clock : ℕ) → clock ≤ clockMax → SomePending (stateOf s) → length (stateOf s .flight .entries) < 255
-    → (a : Sent) → Leans (leanSend room01 clock) (send room01 clock) s s′ a
+    → (a : Sent) → Leans toldSent (leanSend room01 clock) (send room01 clock) s s′ a
     → (d : Chunk) × (head (stateOf s .pending) ≡ some d) × (a ≡ Sent.Yielded (nextTsn (stateOf s)) (sentBy clock (stateOf s) d))

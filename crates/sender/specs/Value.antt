@@ -1,6 +1,7 @@
 -- What a sender by value means; and its calls by 01's room, which is that of its cells.
-use mathlib.Core.Path.{_≡_, subst}
+use mathlib.Core.Path.{_≡_, ap, subst}
 use Rattle.limits.specs.Limits.{Room, room01}
+use Rattle.limits.specs.Told.{Told}
 use Rattle.model.specs.State as State
 use Rattle.outbound_queue.specs.Outbound.{Does}
 use Rattle.sender_head.specs.Whole.{senderOf, Counted}
@@ -15,14 +16,26 @@ stateOf s = senderOf (s .head) (s .cells)
 abbrev pub Sums : Sender → Type 0
 Sums s = Counted (s .head) (s .cells)
 
--- the sender and the answer are those of the model's call, and the counters of bytes stay sums
-abbrev pub Goes : {A : Type 0} → (State.Sender → State.Out A) → Sender → Sender → A → Type 0
-Goes call s s′ answer = Head.Goes call (s .head) (s .cells) (s′ .head) (s′ .cells) answer
+-- the sender and the answer are those of the model's call, and the counters of bytes stay sums; and what is told is told by the model's answer:
+-- 01's number and values, by `told` of the call's answers
+abbrev pub Goes : {A : Type 0} → (told : A → Told) → (State.Sender → State.Out A) → Sender → Sender → A → Type 0
+Goes told call s s′ answer =
+    Head.Goes call (s .head) (s .cells) (s′ .head) (s′ .cells) answer × (told answer ≡ told (call (stateOf s) .says))
 
--- of any state what the code does, and of those that calls reach the model's call, in 01's room
-abbrev pub Leans : {A : Type 0} → (lean call : State.Sender → State.Out A) → Sender → Sender → A → Type 0
-Leans lean call s s′ answer =
-    Does room01 (stateOf s) (record { after = stateOf s′; says = answer }) (lean (stateOf s)) (call (stateOf s)) × (Sums s → Sums s′)
+-- of any state what the code does, and of those that calls reach the model's call, in 01's room; and what is told likewise
+abbrev pub Leans : {A : Type 0} → (told : A → Told) → (lean call : State.Sender → State.Out A) → Sender → Sender → A → Type 0
+Leans told lean call s s′ answer =
+    (Does room01 (stateOf s) (record { after = stateOf s′; says = answer }) (lean (stateOf s)) (call (stateOf s)) × (Sums s → Sums s′))
+    × Does room01 (stateOf s) (told answer) (told (lean (stateOf s) .says)) (told (call (stateOf s) .says))
+
+-- ---- an answer that is the model's tells what the model's tells
+
+pub with-told : {A K : Type 0} (told : A → Told) {got said : State.Out A} → (got ≡ said) × K → ((got ≡ said) × K) × (told (got .says) ≡ told (said .says))
+with-told {A} told d = (d, ap (λ (o : State.Out A). told (o .says)) (d .0))
+
+pub with-told-lean : {A K : Type 0} (told : A → Told) {room : Room} {s : State.Sender} {got lean said : State.Out A}
+    → Does room s got lean said × K → (Does room s got lean said × K) × Does room s (told (got .says)) (told (lean .says)) (told (said .says))
+with-told-lean {A} told d = (d, (ap (λ (o : State.Out A). told (o .says)) (d .0 .0), λ g. ap (λ (o : State.Out A). told (o .says)) (d .0 .1 g)))
 
 -- ---- the same of another name for the room
 

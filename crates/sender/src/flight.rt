@@ -5,6 +5,7 @@ use model::Listed;
 ghost use mathlib.Core.Path.{_≡_};
 ghost use Rattle.limits.specs.Limits.{room01};
 ghost use Rattle.model.specs.Flight.{acknowledge, pop, markAll};
+ghost use Rattle.model.specs.Told.{toldFound, tellsNumber};
 ghost use Rattle.sender.specs.Value.{stateOf, Sums, Goes};
 ghost use Rattle.outbound_abandon.specs.LeanListing.{Lists};
 
@@ -21,7 +22,7 @@ pub struct Popped {
 
 // The entry of a TSN is acknowledged, and holds nothing from then on.
 pub fn acknowledge(s: Sender, tsn: u32) -> Acked
-    ensures { λ r. ⌜ Goes (acknowledge tsn) s (r .sender) (r .bytes) ⌝ }
+    ensures { λ r. ⌜ Goes tellsNumber (acknowledge tsn) s (r .sender) (r .bytes) ⌝ }
 {
     let mut cells = s.cells;
     let acked = sender_calls::flight::acknowledge(s.head, &mut cells, tsn);
@@ -37,7 +38,7 @@ pub fn acknowledge(s: Sender, tsn: u32) -> Acked
 
 // Takes the oldest entry, if it has this TSN.
 pub fn pop(s: Sender, tsn: u32) -> Popped
-    ensures { λ r. ⌜ Goes (pop tsn) s (r .sender) (r .front) ⌝ }
+    ensures { λ r. ⌜ Goes toldFound (pop tsn) s (r .sender) (r .front) ⌝ }
 {
     let cells = s.cells;
     let rest = sender_calls::flight::pop(s.head, &cells, tsn);

@@ -20,23 +20,22 @@ use Rattle.timer.specs.declared.Expiry.{Expiry}
 use Rattle.timer.specs.declared.Expiry.the-variants.{Told, Refused as Denied}
 use Rattle.timer.specs.declared.Checked.{Checked}
 use Rattle.limits.specs.Moments.{passed, ahead, beyond, earlier}
+use Rattle.limits.specs.Told.{valueAt}
+use Rattle.timer.specs.Told.{toldAnswer, toldExpiry}
 use Rattle.timer.specs.Entries.{order, idleEntry, failsAt}
 use Rattle.timer.specs.Timers.{entryOf, withDeadline, withCount, withSuppression, withEntry, waitOf}
 
 -- 01's number for an answer: 0 for done, a refusal its own
 abbrev pub numberOf : Answer → ℕ
-numberOf Done = 0
-numberOf (Refused n) = n
+numberOf a = toldAnswer a .number
 
 -- the same for an expiry
 abbrev pub expiryNumber : Expiry → ℕ
-expiryNumber (Told expired failure count) = 0
-expiryNumber (Denied n) = n
+expiryNumber a = toldExpiry a .number
 
 -- the count that an expiry tells; a refusal tells none
 abbrev pub countOf : Expiry → ℕ
-countOf (Told expired failure count) = count
-countOf (Denied n) = 0
+countOf a = valueAt 2 (toldExpiry a)
 
 -- done, with the table after it
 abbrev pub done : TimerTable → Changed

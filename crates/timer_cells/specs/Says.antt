@@ -9,6 +9,7 @@ use lib.Dec.{leb, eqb}
 use lib.ListN.{getD}
 use Rattle.limits.specs.Limits.{clockMax, countMax}
 use Rattle.limits.specs.Refusals.{done, beyondLimit, countFull}
+use Rattle.limits.specs.Told.{Told, refusing, tellsMoment, valueAt, flagAt, given}
 use Rattle.limits.specs.declared.Moment.{Moment}
 use Rattle.limits.specs.Moments.{passed}
 use Rattle.timer.specs.declared.Timer.{Timer}
@@ -19,6 +20,7 @@ use Rattle.timer.specs.declared.TimerTable.{TimerTable}
 use Rattle.timer.specs.declared.Changed.{Changed}
 use Rattle.timer.specs.declared.Expiry.{Expiry}
 use Rattle.timer.specs.Timers.{withCount, withSuppression}
+use Rattle.timer.specs.Told.{toldExpiry}
 use Rattle.timer.specs.Calls.{numberOf, done as changed, refused, denied, newOf, setOf, getOf, startOf, restartIfStaleOf, stopOf, resetRetransOf, suppressErrorCountOf, isExpiredOf, nextTimeoutOf}
 use Rattle.timer_cells.specs.Words.{momentOf, maximumOf, entryIn, tableOf}
 use Rattle.timer_cells.specs.declared.Head.{Head}
@@ -30,19 +32,25 @@ use Rattle.timer_cells.specs.declared.Step.{Step}
 
 -- ---- replies
 
+-- 01's number, and a moment where there is one
+abbrev pub dueIn : Told → Due
+dueIn t = record { value = valueAt 0 t; refusal = t .number; yes = given t }
+
 -- a deadline, if there is one
 abbrev pub dueOf : Moment → Due
-dueOf Moment.Absent = record { value = 0; refusal = done; yes = false }
-dueOf (Moment.At t) = record { value = t; refusal = done; yes = true }
+dueOf m = dueIn (tellsMoment m)
 
 -- a question that is refused
 abbrev pub noDue : Due
-noDue = record { value = 0; refusal = beyondLimit; yes = false }
+noDue = dueIn (refusing beyondLimit)
+
+-- 01's number, and expired, failure, count by their places
+abbrev pub expiredIn : Told → Expired
+expiredIn t = record { count = valueAt 2 t; refusal = t .number; expired = flagAt 0 t; failure = flagAt 1 t }
 
 -- what an expiry tells, or 01's number for why it tells nothing
 abbrev pub expiredOf : Expiry → Expired
-expiredOf (Expiry.Told e f k) = record { count = k; refusal = done; expired = e; failure = f }
-expiredOf (Expiry.Refused n) = record { count = 0; refusal = n; expired = false; failure = false }
+expiredOf a = expiredIn (toldExpiry a)
 
 -- a reply, beside the head
 abbrev pub saidOf : Head → ℕ → Said

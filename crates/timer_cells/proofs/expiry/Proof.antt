@@ -1,11 +1,12 @@
 -- A law of `Marks` for each way out.
 use native.Mathlib.Omega.{arith}
-use mathlib.Core.Path.{_≡_, sym, ap, _∙_}
-use mathlib.Core.Bool.{true, false}
+use mathlib.Core.Path.{_≡_, sym, ap, subst, _∙_}
+use mathlib.Core.Bool.{Bool, true, false}
 use Prim.Native.Nat.{_+_, _%_}
 use borrow.Author.Tests.{not-true, not-false}
 use Rattle.timer.specs.declared.Entry.{Entry}
-use Rattle.timer_cells.specs.Says.{stepOf}
+use Rattle.limits.specs.Flags.{set-back}
+use Rattle.timer_cells.specs.Says.{stepOf, Expires}
 use Rattle.timer_cells.proofs.Marks.{as-step, late, alive, spared, full, more}
 use borrow.Author.Needs.{needs}
 use Rattle.timer_cells.proofs.expiry.Statement.{statement}
@@ -79,7 +80,8 @@ returns-5 c =
     let a = c .before .before .before .before .before .before .before .before .args in
     let u = c .before .before .before .before .before .before .unpacked in
     as-step (a .deadline) (a .maximum) (a .marks) (a .clock) (stepOf (a .marks + 1) 0 (u .result .retrans + 1) true (c .before .exceeded .result)) _ (c .stepped5 .ensures)
-    (more (a .deadline) (a .maximum) (a .marks) (a .clock) (omega arith) (u .result) (u .ensures) (sym (c .before .before .before .before .before .reached .ensures) ∙ not-false _ (c .before .before .before .before .if2 .left)) (c .before .before .before .if3 .left) (omega arith) (c .before .exceeded .result) (c .before .exceeded .ensures))
+    (subst (λ (f : Bool). Expires (a .deadline) (a .maximum) (a .marks) (a .clock) (a .marks + 1) (stepOf (a .marks + 1) 0 (u .result .retrans + 1) true f .reply)) (set-back (c .before .exceeded .result))
+    (more (a .deadline) (a .maximum) (a .marks) (a .clock) (omega arith) (u .result) (u .ensures) (sym (c .before .before .before .before .before .reached .ensures) ∙ not-false _ (c .before .before .before .before .if2 .left)) (c .before .before .before .if3 .left) (omega arith) (c .before .exceeded .result) (c .before .exceeded .ensures)))
 
 pub expiry-spec : {M : Type 1} → statement M
 expiry-spec =

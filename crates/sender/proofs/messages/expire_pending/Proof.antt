@@ -1,8 +1,9 @@
 -- The same of the sender that is taken apart, whose room is 01's.
 use mathlib.Core.Path.{_≡_}
 use lib.ListN.{length}
+use Rattle.model.specs.Told.{toldExpired}
 use Rattle.sender.specs.Sizes.{sizes}
-use Rattle.sender.specs.Value.{does-in}
+use Rattle.sender.specs.Value.{does-in, with-told-lean}
 use borrow.Author.Needs.{needs}
 use Rattle.sender.proofs.messages.expire_pending.Statement.{statement}
 use Rattle.sender.proofs.messages.expire_pending.Tie as tie
@@ -18,7 +19,7 @@ returns c =
     let a = c .before .before .before .before .before .args in
     let m = c .before .before .expire-pending in
     let e : length (a .s .cells) ≡ 6656 = search needs in
-    (does-in (sizes (a .s .cells) e) (m .ensures .0), m .ensures .1)
+    with-told-lean toldExpired (does-in (sizes (a .s .cells) e) (m .ensures .0), m .ensures .1)
 
 pub expire-pending-spec : {M : Type 1} → statement M
 expire-pending-spec =
