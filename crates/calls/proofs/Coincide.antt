@@ -3,10 +3,8 @@ use mathlib.Core.Path.{_≡_, refl, sym, ap, _∙_}
 use mathlib.Core.Option.{Option, none, some}
 use Rattle.model.specs.State.{Out}
 use Rattle.model.specs.Calls as Model
-use Rattle.model.specs.Calls.{step}
-use Rattle.sender_head.specs.Whole.{roomIn, senderOf}
 use Rattle.calls.specs.declared.Answer.{Answer}
-use Rattle.calls.specs.Meant.{meant, said, lean}
+use Rattle.calls.specs.Meant.{said}
 use Rattle.calls.specs.Coincide.{OneOutcome, OutcomesCoincide}
 
 pub one-outcome : OneOutcome
@@ -45,9 +43,7 @@ unsaid-said (Answer.Number x) = refl
 unsaid-said (Answer.YesNo b) = refl
 
 pub outcomes-coincide : OutcomesCoincide
-outcomes-coincide h ws k counted a b u v p q =
-    let s = senderOf h ws in
-    let room = roomIn ws in
-    let e = one-outcome (Out Model.Answer) room s _ _ (lean room k s) (step room (meant k) s) (p counted) (q counted) in
+outcomes-coincide h ws k a b u v p q =
+    let e = p .0 ∙ sym (q .0) in
     let t : some a ≡ some b = sym (unsaid-said a) ∙ ap (λ (r : Out Model.Answer). unsaid (r .says)) e ∙ unsaid-said b in
     (cc, ap (λ (r : Out Model.Answer). r .after) e)

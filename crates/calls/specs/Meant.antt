@@ -4,13 +4,13 @@ use mathlib.Core.Bool.{Bool, true, false}
 use mathlib.Core.List.{List}
 use Prim.Native.Nat.{ℕ}
 use Rattle.limits.specs.Limits.{Room}
-use Rattle.model.specs.State.{Sender, Out}
+use Rattle.model.specs.State.{Sender, Out, same}
 use Rattle.model.specs.Calls as Model
 use Rattle.model.specs.Calls.{step, told}
 use Rattle.outbound_send.specs.Lean.{leanStart, leanSend}
 use Rattle.outbound_abandon.specs.Lean.{leanAbandon}
 use Rattle.outbound_abandon.specs.LeanExpiry.{leanExpire, leanExpireTail}
-use Rattle.outbound_queue.specs.Outbound.{Does}
+use Rattle.outbound_queue.specs.Outbound.{Good}
 use Rattle.sender_head.specs.declared.Head.{Head}
 use Rattle.sender_head.specs.Whole.{roomIn, senderOf, Counted}
 use Rattle.calls.specs.declared.Query.{Query}
@@ -73,25 +73,44 @@ said (Answer.YesNo b) = Model.yesNo b
 
 -- ---- of any state at all
 
--- what the code does: in five calls less than the model
-abbrev pub lean : Room → Call → Sender → Out Model.Answer
-lean room (Call.Open id m) s = step room (Model.Open id m) s
-lean room (Call.SetReliability id u k v) s = step room (Model.SetReliability id u k v) s
-lean room (Call.SetLow id x) s = step room (Model.SetLow id x) s
-lean room (Call.SetHigh id x) s = step room (Model.SetHigh id x) s
-lean room (Call.Write id p o l) s = step room (Model.Write id p o l) s
-lean room (Call.Release id r) s = step room (Model.Release id r) s
-lean room (Call.StartLifetimes now) s = told Model.toDo (leanStart now s)
-lean room (Call.Send now) s = told Model.toSend (leanSend room now s)
-lean room (Call.ExpirePending now) s = told Model.toExpire (leanExpire now s)
-lean room (Call.ExpirePendingTail now) s = told Model.toExpireTail (leanExpireTail room now s)
-lean room (Call.Abandon t) s = told Model.toAbandon (leanAbandon room t s)
-lean room (Call.Acknowledge t) s = step room (Model.Acknowledge t) s
-lean room (Call.Pop t) s = step room (Model.Pop t) s
-lean room Call.MarkAll s = step room Model.MarkAll s
-lean room (Call.Ask q) s = step room (Model.Ask (asked q)) s
+-- what the code answers: the two questions for bytes hear the head's counters
+abbrev pub kept : Query → Head → Sender → Model.Answer
+kept (Query.Get t) h s = Model.answer (Model.Get t) s
+kept (Query.IsAbandoned t) h s = Model.answer (Model.IsAbandoned t) s
+kept Query.PeekPending h s = Model.answer Model.PeekPending s
+kept Query.NextMessage h s = Model.answer Model.NextMessage s
+kept Query.NextTsn h s = Model.answer Model.NextTsn s
+kept Query.PendingLength h s = Model.answer Model.PendingLength s
+kept Query.PendingBytes h s = Model.number (h .queue .pending .bytes)
+kept Query.InflightLength h s = Model.answer Model.InflightLength s
+kept Query.InflightBytes h s = Model.number (h .queue .inflight .bytes)
+kept Query.EarliestOutstanding h s = Model.answer Model.EarliestOutstanding s
+kept (Query.PendingContainsStream id) h s = Model.answer (Model.PendingContainsStream id) s
+kept (Query.ContainsStream id) h s = Model.answer (Model.ContainsStream id) s
+kept (Query.BufferedAmount id) h s = Model.answer (Model.BufferedAmount id) s
+kept (Query.LowThreshold id) h s = Model.answer (Model.LowThreshold id) s
+kept (Query.HighThreshold id) h s = Model.answer (Model.HighThreshold id) s
+kept (Query.Statistics id) h s = Model.answer (Model.Statistics id) s
 
--- the two questions whose answers are kept, and are sums where they were
+-- what the code does: in five calls less than the model
+abbrev pub lean : Room → Call → Head → Sender → Out Model.Answer
+lean room (Call.Open id m) h s = step room (Model.Open id m) s
+lean room (Call.SetReliability id u k v) h s = step room (Model.SetReliability id u k v) s
+lean room (Call.SetLow id x) h s = step room (Model.SetLow id x) s
+lean room (Call.SetHigh id x) h s = step room (Model.SetHigh id x) s
+lean room (Call.Write id p o l) h s = step room (Model.Write id p o l) s
+lean room (Call.Release id r) h s = step room (Model.Release id r) s
+lean room (Call.StartLifetimes now) h s = told Model.toDo (leanStart now s)
+lean room (Call.Send now) h s = told Model.toSend (leanSend room now s)
+lean room (Call.ExpirePending now) h s = told Model.toExpire (leanExpire now s)
+lean room (Call.ExpirePendingTail now) h s = told Model.toExpireTail (leanExpireTail room now s)
+lean room (Call.Abandon t) h s = told Model.toAbandon (leanAbandon room t s)
+lean room (Call.Acknowledge t) h s = step room (Model.Acknowledge t) s
+lean room (Call.Pop t) h s = step room (Model.Pop t) s
+lean room Call.MarkAll h s = step room Model.MarkAll s
+lean room (Call.Ask q) h s = same (kept q h s) s
+
+-- the two questions for bytes, whose answers are the model's where the head's counters are sums
 abbrev pub asksSum : Query → Bool
 asksSum (Query.Get t) = false
 asksSum (Query.IsAbandoned t) = false
@@ -127,8 +146,15 @@ sums (Call.Pop t) = false
 sums Call.MarkAll = false
 sums (Call.Ask q) = asksSum q
 
--- a call leaves the head and the cells thus, and answers: of every head and every cells what the code does there, and the model's call in every `Good` state
+-- ---- what a call promises
+
+-- such an answer and such a sender: of every head and every cells what the code does there, and the model's call in every `Good` state, of the
+-- two questions for bytes where the counters are sums
+abbrev pub Allows : Call → Head → List ℕ → Answer → Sender → Type 0
+Allows call h ws a after =
+    (record { after = after; says = said a } ≡ lean (roomIn ws) call h (senderOf h ws))
+    × ((sums call ≡ true → Counted h ws) → Good (roomIn ws) (senderOf h ws) → record { after = after; says = said a } ≡ step (roomIn ws) (meant call) (senderOf h ws))
+
+-- a call answers, and leaves the head and the cells thus; the counters of bytes stay sums
 abbrev pub Steps : Call → Head → List ℕ → Head → List ℕ → Answer → Type 0
-Steps call h ws h′ ws′ a =
-    ((sums call ≡ true → Counted h ws) → Does (roomIn ws) (senderOf h ws) (record { after = senderOf h′ ws′; says = said a }) (lean (roomIn ws) call (senderOf h ws)) (step (roomIn ws) (meant call) (senderOf h ws)))
-    × (Counted h ws → Counted h′ ws′)
+Steps call h ws h′ ws′ a = Allows call h ws a (senderOf h′ ws′) × (Counted h ws → Counted h′ ws′)

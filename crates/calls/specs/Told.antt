@@ -8,22 +8,25 @@ use Rattle.model.specs.declared.Done.{Done}
 use Rattle.model.specs.State.{Sender, Out, same}
 use Rattle.model.specs.Calls as Model
 use Rattle.model.specs.Calls.{told}
-use Rattle.outbound_queue.specs.Outbound.{Does}
+use Rattle.outbound_queue.specs.Outbound.{Good, Does}
 use Rattle.sender_head.specs.declared.Head.{Head}
 use Rattle.calls.specs.declared.Query.{Query}
 use Rattle.calls.specs.declared.Call.{Call}
 use Rattle.calls.specs.declared.Answer.{Answer}
 use Rattle.calls.specs.declared.Stepped.{Stepped}
-use Rattle.calls.specs.Meant.{asked, asksSum, Steps}
+use Rattle.calls.specs.Meant.{asked, kept, asksSum, Steps}
 
 -- ---- a question that is q
 
-pub answered : {P : Type 0} {query q : Query} {x : Model.Answer} (s : Sender) → query ≡ q → x ≡ Model.answer (asked q) s → (asksSum query ≡ true → P) → x ≡ Model.answer (asked query) s
-answered s e a = λ _. a ∙ ap (λ (o : Query). Model.answer (asked o) s) (sym e)
+module _ {P : Type 0} {query q : Query} {x : Model.Answer} (h : Head) (s : Sender) (e : query ≡ q) where
+  pub answered : kept q h s ≡ Model.answer (asked q) s → x ≡ Model.answer (asked q) s → (x ≡ kept query h s) × ((asksSum query ≡ true → P) → x ≡ Model.answer (asked query) s)
+  answered k a =
+      let m = ap (λ (o : Query). Model.answer (asked o) s) (sym e) in (a ∙ sym k ∙ ap (λ (o : Query). kept o h s) (sym e), λ _. a ∙ m)
 
--- of a sum that is kept
-pub summed : {P : Type 0} {query q : Query} {x : Model.Answer} (s : Sender) → query ≡ q → asksSum q ≡ true → (P → x ≡ Model.answer (asked q) s) → (asksSum query ≡ true → P) → x ≡ Model.answer (asked query) s
-summed s e t a = λ p. a (p (ap asksSum e ∙ t)) ∙ ap (λ (o : Query). Model.answer (asked o) s) (sym e)
+  -- of a counter that is kept
+  pub summed : asksSum q ≡ true → x ≡ kept q h s → (P → x ≡ Model.answer (asked q) s) → (x ≡ kept query h s) × ((asksSum query ≡ true → P) → x ≡ Model.answer (asked query) s)
+  summed t k a =
+      (k ∙ ap (λ (o : Query). kept o h s) (sym e), λ p. a (p (ap asksSum e ∙ t)) ∙ ap (λ (o : Query). Model.answer (asked o) s) (sym e))
 
 -- ---- a call that is k, and a record that is made of a head and an answer
 
@@ -31,19 +34,20 @@ pub stepped : (h : Head) (ws ws′ : List ℕ) {h′ : Head} {call k : Call} {r 
 stepped h ws ws′ {h′} {call} {k} {r} {a} e made d =
     subst (λ (o : Call). Steps o h ws (r .head) ws′ (r .answer)) (sym e) (subst (λ (o : Stepped). Steps k h ws (o .head) ws′ (o .answer)) (sym made) d)
 
-module _ {A K P : Type 0} {room : Room} {s : Sender} {got m : Out A} (f : A → Model.Answer) where
+module _ {A K P : Type 0} {got m : Out A} (f : A → Model.Answer) where
   -- an answer, as one of all answers
-  pub leanly : {l : Out A} → Does room s got l m × K → (P → Does room s (told f got) (told f l) (told f m)) × K
-  leanly d = (λ _. (ap (told f) (d .0 .0), λ good. ap (told f) (d .0 .1 good)), d .1)
+  pub leanly : {room : Room} {s : Sender} {l : Out A} → Does room s got l m × K → ((told f got ≡ told f l) × (P → Good room s → told f got ≡ told f m)) × K
+  leanly d = ((ap (told f) (d .0 .0), λ _ good. ap (told f) (d .0 .1 good)), d .1)
 
   -- where the code does the model's call of every state
-  pub exactly : (got ≡ m) × K → (P → Does room s (told f got) (told f m) (told f m)) × K
-  exactly d = (λ _. (ap (told f) (d .0), λ _. ap (told f) (d .0)), d .1)
+  pub exactly : {G : Type 0} → (got ≡ m) × K → ((told f got ≡ told f m) × (P → G → told f got ≡ told f m)) × K
+  exactly d = ((ap (told f) (d .0), λ _ _. ap (told f) (d .0)), d .1)
 
--- a call that has no answer
-pub doing : {K P : Type 0} {room : Room} {s s′ t : Sender} → (s′ ≡ t) × K → (P → Does room s (same (Model.toDo Done.Done) s′) (same (Model.toDo Done.Done) t) (same (Model.toDo Done.Done) t)) × K
-doing d = let e = ap (λ (o : Sender). same (Model.toDo Done.Done) o) (d .0) in (λ _. (e, λ _. e), d .1)
+module _ {K P G : Type 0} where
+  -- a call that has no answer
+  pub doing : {s′ t : Sender} → (s′ ≡ t) × K → ((same (Model.toDo Done.Done) s′ ≡ same (Model.toDo Done.Done) t) × (P → G → same (Model.toDo Done.Done) s′ ≡ same (Model.toDo Done.Done) t)) × K
+  doing d = let e = ap (λ (o : Sender). same (Model.toDo Done.Done) o) (d .0) in ((e, λ _ _. e), d .1)
 
--- a question: the sender stays
-pub asking : {K P : Type 0} {room : Room} {x y : Model.Answer} (s : Sender) → (P → x ≡ y) → (P → Does room s (same x s) (same y s) (same y s)) × (K → K)
-asking s e = (λ p. let a = ap (λ (z : Model.Answer). same z s) (e p) in (a, λ _. a), λ k. k)
+  -- a question: the sender stays
+  pub asking : {x y z : Model.Answer} (s : Sender) → (x ≡ y) × (P → x ≡ z) → ((same x s ≡ same y s) × (P → G → same x s ≡ same z s)) × (K → K)
+  asking s e = let stays : Model.Answer → Out Model.Answer = λ a. same a s in ((ap stays (e .0), λ p _. ap stays (e .1 p)), λ k. k)

@@ -17,7 +17,7 @@ ghost use mathlib.Core.Bool.{true};
 ghost use Rattle.model.specs.Calls.{answer};
 ghost use Rattle.sender_head.specs.Whole.{senderOf, Counted};
 ghost use Rattle.calls.specs.declared.Answer.{Answer};
-ghost use Rattle.calls.specs.Meant.{asked, said, asksSum, Steps};
+ghost use Rattle.calls.specs.Meant.{asked, said, kept, asksSum, Steps};
 
 // What changes nothing.
 pub enum Query {
@@ -115,9 +115,10 @@ pub struct Stepped {
     pub answer: Answer,
 }
 
-// Of every head and every cells; the two sums of bytes where they are kept right (`Counted`).
+// Of every head and every cells the model's answer, but for the two sums of bytes: these are the kept counters, and the model's where the
+// counters are sums (`Counted`).
 pub fn ask(h: Head, cells: &[u64], query: Query) -> Answer
-    ensures { λ r. ⌜ ((asksSum query ≡ true → Counted h (now (cells .entry))) → said r ≡ answer (asked query) (senderOf h (now (cells .entry)))) ⌝ }
+    ensures { λ r. ⌜ (said r ≡ kept query h (senderOf h (now (cells .entry)))) × ((asksSum query ≡ true → Counted h (now (cells .entry))) → said r ≡ answer (asked query) (senderOf h (now (cells .entry)))) ⌝ }
 {
     match query {
         Query::Get { tsn } => Answer::ToFind(sender_asks::get(h, cells, tsn)),

@@ -35,9 +35,9 @@ doing call s = record { after = call s; says = done }
 abbrev pub Asks : {A B : Type 0} → (A → B) → (Sender → A) → Head → List ℕ → B → Type 0
 Asks f ask h ws y = y ≡ f (ask (senderOf h ws))
 
--- a question of what is kept: it is the sum from a fresh sender on
-abbrev pub Sums : {A B : Type 0} → (A → B) → (Sender → A) → Head → List ℕ → B → Type 0
-Sums f ask h ws y = Counted h ws → y ≡ f (ask (senderOf h ws))
+-- a question of what is kept: the head's counter, and the model's answer where the counters are sums, as they are from a fresh sender on
+abbrev pub Sums : {A B : Type 0} → (A → B) → (kept : Head → A) → (Sender → A) → Head → List ℕ → B → Type 0
+Sums f kept ask h ws y = (y ≡ f (kept h)) × (Counted h ws → y ≡ f (ask (senderOf h ws)))
 
 -- ---- the same from what the call does, whose answer `x` is the reply `y`; K is what else it keeps
 
@@ -54,8 +54,8 @@ module _ {A B : Type 0} (f : A → B) {x : A} {y : B} (reply : y ≡ f x) where
   pub asks : {z : A} → x ≡ z → y ≡ f z
   asks e = reply ∙ ap f e
 
-  pub sums : {K : Type 0} {z : A} → (K → x ≡ z) → K → y ≡ f z
-  sums e k = asks (e k)
+  pub sums : {K : Type 0} {k z : A} → (x ≡ k) × (K → x ≡ z) → (y ≡ f k) × (K → y ≡ f z)
+  sums e = (asks (e .0), λ counted. asks (e .1 counted))
 
 -- of a call that answers nothing
 pub marks : {K : Type 0} {s t : Sender} {y : Reply} → y ≡ onlyNumber done → (s ≡ t) × K → (same y s ≡ told onlyNumber (same done t)) × K

@@ -124,7 +124,7 @@ PendingLength = Asks numberIs (λ s. length (s .pending .unordered) + length (s 
 
 -- How many bytes are pending.
 abbrev pub PendingBytes : Head → List ℕ → Reply → Type 0
-PendingBytes = Sums numberIs (λ s. bytes (s .pending .unordered) + bytes (s .pending .ordered))
+PendingBytes = Sums numberIs (λ h. h .queue .pending .bytes) (λ s. bytes (s .pending .unordered) + bytes (s .pending .ordered))
 
 -- How many entries the flight has.
 abbrev pub InflightLength : Head → List ℕ → Reply → Type 0
@@ -132,7 +132,7 @@ InflightLength = Asks numberIs (λ s. length (s .flight .entries))
 
 -- How many bytes the entries in flight hold.
 abbrev pub InflightBytes : Head → List ℕ → Reply → Type 0
-InflightBytes = Sums numberIs (λ s. bytes (s .flight .entries))
+InflightBytes = Sums numberIs (λ h. h .queue .inflight .bytes) (λ s. bytes (s .flight .entries))
 
 -- The oldest TSN that is neither acknowledged nor abandoned, where `yes` is set.
 abbrev pub EarliestOutstanding : Head → List ℕ → Reply → Type 0

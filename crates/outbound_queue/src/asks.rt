@@ -1,4 +1,5 @@
-// What is asked of the queue: nothing changes. Each answer is the model's, of every record and every cells.
+// What is asked of the queue: nothing changes. Each answer is the model's, of every record and every cells; the two of bytes are the kept counters,
+// and the model's where these are sums (`Counted`).
 use super::OutboundQueue;
 use model::Earliest;
 use model::Found;
@@ -73,7 +74,7 @@ pub fn pending_len(q: OutboundQueue, cells: &[u64]) -> usize
 
 // In constant time, as the bytes in flight are.
 pub fn pending_bytes(q: OutboundQueue) -> u64
-    ensures { λ r. ⌜ ((ws : List ℕ) → Counted q ws → r ≡ bytesIn (waitingIn q ws)) ⌝ }
+    ensures { λ r. ⌜ (r ≡ q .pending .bytes) × ((ws : List ℕ) → Counted q ws → r ≡ bytesIn (waitingIn q ws)) ⌝ }
 {
     pending_queue::asks::bytes(q.pending)
 }
@@ -86,7 +87,7 @@ pub fn inflight_len(q: OutboundQueue, cells: &[u64]) -> usize
 }
 
 pub fn inflight_bytes(q: OutboundQueue) -> u64
-    ensures { λ r. ⌜ ((ws : List ℕ) → Counted q ws → r ≡ bytes (flyingIn q ws .entries)) ⌝ }
+    ensures { λ r. ⌜ (r ≡ q .inflight .bytes) × ((ws : List ℕ) → Counted q ws → r ≡ bytes (flyingIn q ws .entries)) ⌝ }
 {
     payload_queue::asks::bytes(q.inflight)
 }

@@ -1,5 +1,5 @@
-// What is asked of a sender by value: nothing changes. Each answer is the model's (`answer` of model/specs/Calls), of every sender; the two
-// sums of bytes are kept, and are the sums where they were (`Sums`).
+// What is asked of a sender by value: nothing changes. Each answer is the model's (`answer` of model/specs/Calls), of every sender; the two of
+// bytes are the kept counters, and the model's where these are sums (`Sums`).
 use super::Sender;
 use model::Earliest;
 use model::Found;
@@ -59,7 +59,7 @@ pub fn pending_length(s: Sender) -> usize
 }
 
 pub fn pending_bytes(s: Sender) -> u64
-    ensures { λ r. ⌜ (Sums s → r ≡ bytesIn (stateOf s .pending)) ⌝ }
+    ensures { λ r. ⌜ (r ≡ s .head .queue .pending .bytes) × (Sums s → r ≡ bytesIn (stateOf s .pending)) ⌝ }
 {
     sender_asks::pending_bytes(s.head)
 }
@@ -72,7 +72,7 @@ pub fn inflight_length(s: Sender) -> usize
 }
 
 pub fn inflight_bytes(s: Sender) -> u64
-    ensures { λ r. ⌜ (Sums s → r ≡ bytes (stateOf s .flight .entries)) ⌝ }
+    ensures { λ r. ⌜ (r ≡ s .head .queue .inflight .bytes) × (Sums s → r ≡ bytes (stateOf s .flight .entries)) ⌝ }
 {
     sender_asks::inflight_bytes(s.head)
 }

@@ -1,6 +1,6 @@
 // What is asked of the sender over a head by value and the lent cells: of what is pending, of the flight, of one stream (refusal: 3). Nothing
-// changes. Each answer is the model's (`answer` of model/specs/Calls), of every head and every cells; the two sums of bytes are kept, and are
-// the sums where they were (`Counted`).
+// changes. Each answer is the model's (`answer` of model/specs/Calls), of every head and every cells; the two of bytes are the kept counters, and
+// the model's where these are sums (`Counted`).
 use limits::NOT_OPEN;
 use model::Amount;
 use model::Earliest;
@@ -44,7 +44,7 @@ pub fn pending_length(h: Head, cells: &[u64]) -> usize
 }
 
 pub fn pending_bytes(h: Head) -> u64
-    ensures { λ r. ⌜ ((ws : List ℕ) → Counted h ws → r ≡ bytesIn (senderOf h ws .pending)) ⌝ }
+    ensures { λ r. ⌜ (r ≡ h .queue .pending .bytes) × ((ws : List ℕ) → Counted h ws → r ≡ bytesIn (senderOf h ws .pending)) ⌝ }
 {
     outbound_queue::asks::pending_bytes(h.queue)
 }
@@ -103,7 +103,7 @@ pub fn inflight_length(h: Head, cells: &[u64]) -> usize
 }
 
 pub fn inflight_bytes(h: Head) -> u64
-    ensures { λ r. ⌜ ((ws : List ℕ) → Counted h ws → r ≡ bytes (senderOf h ws .flight .entries)) ⌝ }
+    ensures { λ r. ⌜ (r ≡ h .queue .inflight .bytes) × ((ws : List ℕ) → Counted h ws → r ≡ bytes (senderOf h ws .flight .entries)) ⌝ }
 {
     outbound_queue::asks::inflight_bytes(h.queue)
 }

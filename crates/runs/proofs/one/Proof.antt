@@ -47,7 +47,7 @@ returns c =
     let e = ap coded (sym (x .1)) ∙ c .before .before .before .before .before .before .before .before .before .before .before .before .read .ensures .0 in
     let m = c .before .before .before .before .before .before .before .step in
     let p = c .before .before .put-answer in
-    λ good sums. (after-of (meant (x .0 .0)) (callOf (now (a .coded))) (said (m .result .answer)) e (m .ensures .0 (λ _. sums) .1 good) (p .ensures), m .ensures .1 sums)
+    λ good sums. (after-of (meant (x .0 .0)) (callOf (now (a .coded))) (said (m .result .answer)) e (m .ensures .0 .1 (λ _. sums) good) (p .ensures), m .ensures .1 sums)
 
 same-length-3 : tie.Need-same-length-3
 same-length-3 c = search needs

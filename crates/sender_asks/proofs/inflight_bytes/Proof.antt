@@ -8,7 +8,7 @@ inflight-bytes-requires : tie.Need-inflight-bytes-requires
 inflight-bytes-requires c κs = search needs
 
 returns : tie.Need-returns
-returns c = λ ws k. c .inflight-bytes .ensures (halves ws .queue) k
+returns c = let m = c .inflight-bytes .ensures in (m .0, λ ws k. m .1 (halves ws .queue) k)
 
 pub inflight-bytes-spec : {M : Type 1} → statement M
 inflight-bytes-spec = tie.close (tie.spec inflight-bytes-requires returns)

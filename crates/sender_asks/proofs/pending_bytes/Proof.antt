@@ -8,7 +8,7 @@ pending-bytes-requires : tie.Need-pending-bytes-requires
 pending-bytes-requires c κs = search needs
 
 returns : tie.Need-returns
-returns c = λ ws k. c .pending-bytes .ensures (halves ws .queue) k
+returns c = let m = c .pending-bytes .ensures in (m .0, λ ws k. m .1 (halves ws .queue) k)
 
 pub pending-bytes-spec : {M : Type 1} → statement M
 pending-bytes-spec = tie.close (tie.spec pending-bytes-requires returns)

@@ -1,4 +1,4 @@
--- The head knows it, whatever the cells are.
+-- The head's counter, whatever the cells are.
 use borrow.Author.Needs.{needs}
 use Rattle.sender.proofs.questions.inflight_bytes.Statement.{statement}
 use Rattle.sender.proofs.questions.inflight_bytes.Tie as tie
@@ -7,7 +7,7 @@ inflight-bytes-requires : tie.Need-inflight-bytes-requires
 inflight-bytes-requires c κs = search needs
 
 returns : tie.Need-returns
-returns c = c .inflight-bytes .ensures (c .before .args .s .cells)
+returns c = let m = c .inflight-bytes .ensures in (m .0, m .1 (c .before .args .s .cells))
 
 pub inflight-bytes-spec : {M : Type 1} → statement M
 inflight-bytes-spec = tie.close (tie.spec inflight-bytes-requires returns)
