@@ -20,10 +20,10 @@ use Rattle.model.specs.declared.TailExpired.{TailExpired}
 use Rattle.model.specs.declared.Written.{Written}
 use Rattle.model.specs.Records.{makeMessage, makeChunk}
 use Rattle.model.specs.Rings.{tsnsAre, refused}
-use Rattle.model.specs.Calls.{toDo, toWrite, toRelease, toSend, toExpire, toExpireTail, toAbandon, toFind, toSeek, toMeasure, toCount, toList, number, yesNo}
+use Rattle.model.specs.Calls.{toldOf, toDo, toWrite, toRelease, toSend, toExpire, toExpireTail, toAbandon, toFind, toSeek, toMeasure, toCount, toList, number, yesNo}
 use Rattle.cells.specs.Words.{bitOf}
 use Rattle.coded_calls.specs.Words.{present, time, chunkWords}
-use Rattle.coded_calls.specs.Back.{flag, moment, chunkFrom, Read, plain, WordsTell}
+use Rattle.coded_calls.specs.Back.{flag, moment, chunkFrom, Read, plain, WordsTell, WordsAreTold}
 
 flag-back : (b : Bool) → flag (bitOf b) ≡ b
 flag-back true = refl
@@ -70,3 +70,6 @@ words-tell (toList (refused n)) us = refl
 words-tell (toList (tsnsAre l)) us = λ i. plain (toList (tsnsAre (take-at l us (length l) refl i))) (drop-at l us (length l) refl i)
 words-tell (number x) us = refl
 words-tell (yesNo b) us = ap (λ (f : Bool). plain (yesNo f) us) (flag-back b)
+
+pub words-are-told : WordsAreTold
+words-are-told a us = ap (λ (r : Read). toldOf (r .answer)) (words-tell a us)

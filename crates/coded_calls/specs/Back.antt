@@ -22,7 +22,8 @@ use Rattle.model.specs.declared.Written.{Written}
 use Rattle.model.specs.Lists.{if_then_else_}
 use Rattle.model.specs.Records.{makeMessage, makeChunk}
 use Rattle.model.specs.Rings.{tsnsAre, refused}
-use Rattle.model.specs.Calls.{Answer, toDo, toWrite, toRelease, toSend, toExpire, toExpireTail, toAbandon, toFind, toSeek, toMeasure, toCount, toList, number, yesNo}
+use Rattle.limits.specs.Told.{Told}
+use Rattle.model.specs.Calls.{Answer, toldOf, toDo, toWrite, toRelease, toSend, toExpire, toExpireTail, toAbandon, toFind, toSeek, toMeasure, toCount, toList, number, yesNo}
 use Rattle.coded_calls.specs.Words.{words}
 
 abbrev pub flag : ℕ → Bool
@@ -73,3 +74,11 @@ readBack w = answerFrom (getD w 0 0) (getD w 1 0) (getD w 2 0) (getD w 3 0) (get
 -- whatever comes behind
 abbrev pub WordsTell : Type 0
 WordsTell = (a : Answer) (us : List ℕ) → readBack (words a ++ us) ≡ plain a us
+
+-- 01's number and values, from an answer's words
+abbrev pub toldIn : List ℕ → Told
+toldIn w = toldOf (readBack w .answer)
+
+-- the words of an answer tell its number and its values, whatever comes behind
+abbrev pub WordsAreTold : Type 0
+WordsAreTold = (a : Answer) (us : List ℕ) → toldIn (words a ++ us) ≡ toldOf a
