@@ -28,7 +28,8 @@ pub fn init(head: Head, cells: &mut [u64], tsn: u32, number: u64) -> Said
 pub fn open_stream(head: Head, cells: &mut [u64], identifier: u16, maximum: u32) -> Said
     ensures { λ r. ⌜ OpenStream (roomIn (now (cells .entry))) identifier maximum head (now (cells .entry)) (r .head) (now (cells .exit)) (r .reply) ⌝ }
 {
-    let after = sender_streams::open_stream(head, cells, identifier, maximum);
+    let own = sender_head::by_numbers(head);
+    let after = sender_streams::open_stream(own, cells, identifier, maximum);
     let answer = after.answer;
     let reply = flat::replies::done(answer);
     let rest = after.head;
@@ -104,7 +105,8 @@ pub fn write(
 ) -> Said
     ensures { λ r. ⌜ Write (roomIn (now (cells .entry))) identifier protocol offset length head (now (cells .entry)) (r .head) (now (cells .exit)) (r .reply) ⌝ }
 {
-    let after = sender_write::write(head, cells, identifier, protocol, offset, length);
+    let own = sender_head::by_numbers(head);
+    let after = sender_write::write(own, cells, identifier, protocol, offset, length);
     let answer = after.answer;
     let reply = flat::replies::written(answer);
     let rest = after.head;
@@ -118,7 +120,8 @@ pub fn write(
 pub fn start_lifetimes(head: Head, cells: &mut [u64], clock: u64) -> Said
     ensures { λ r. ⌜ StartLifetimes (roomIn (now (cells .entry))) clock head (now (cells .entry)) (r .head) (now (cells .exit)) (r .reply) ⌝ }
 {
-    let after = sender_calls::start_lifetimes(head, cells, clock);
+    let own = sender_head::by_numbers(head);
+    let after = sender_calls::start_lifetimes(own, cells, clock);
     let answer = after.answer;
     let reply = flat::replies::done(answer);
     let rest = after.head;
@@ -132,7 +135,8 @@ pub fn start_lifetimes(head: Head, cells: &mut [u64], clock: u64) -> Said
 pub fn send(head: Head, cells: &mut [u64], clock: u64) -> SaidFragment
     ensures { λ r. ⌜ Send (roomIn (now (cells .entry))) clock head (now (cells .entry)) (r .head) (now (cells .exit)) (r .reply) ⌝ }
 {
-    let after = sender_calls::send(head, cells, clock);
+    let own = sender_head::by_numbers(head);
+    let after = sender_calls::send(own, cells, clock);
     let answer = after.answer;
     let reply = flat::replies::sent(answer);
     let rest = after.head;
@@ -146,7 +150,8 @@ pub fn send(head: Head, cells: &mut [u64], clock: u64) -> SaidFragment
 pub fn expire_pending(head: Head, cells: &mut [u64], clock: u64) -> SaidFreed
     ensures { λ r. ⌜ ExpirePending (roomIn (now (cells .entry))) clock head (now (cells .entry)) (r .head) (now (cells .exit)) (r .reply) ⌝ }
 {
-    let after = sender_calls::expire_pending(head, cells, clock);
+    let own = sender_head::by_numbers(head);
+    let after = sender_calls::expire_pending(own, cells, clock);
     let answer = after.answer;
     let reply = flat::replies::expired(answer);
     let rest = after.head;
@@ -160,7 +165,8 @@ pub fn expire_pending(head: Head, cells: &mut [u64], clock: u64) -> SaidFreed
 pub fn expire_pending_tail(head: Head, cells: &mut [u64], clock: u64) -> SaidFreed
     ensures { λ r. ⌜ ExpirePendingTail (roomIn (now (cells .entry))) clock head (now (cells .entry)) (r .head) (now (cells .exit)) (r .reply) ⌝ }
 {
-    let after = sender_calls::expire_pending_tail(head, cells, clock);
+    let own = sender_head::by_numbers(head);
+    let after = sender_calls::expire_pending_tail(own, cells, clock);
     let answer = after.answer;
     let reply = flat::replies::tail(answer);
     let rest = after.head;
@@ -174,7 +180,8 @@ pub fn expire_pending_tail(head: Head, cells: &mut [u64], clock: u64) -> SaidFre
 pub fn abandon(head: Head, cells: &mut [u64], tsn: u32) -> SaidFreed
     ensures { λ r. ⌜ Abandon (roomIn (now (cells .entry))) tsn head (now (cells .entry)) (r .head) (now (cells .exit)) (r .reply) ⌝ }
 {
-    let after = sender_calls::abandon(head, cells, tsn);
+    let own = sender_head::by_numbers(head);
+    let after = sender_calls::abandon(own, cells, tsn);
     let answer = after.answer;
     let reply = flat::replies::abandoned(answer);
     let rest = after.head;
@@ -188,7 +195,8 @@ pub fn abandon(head: Head, cells: &mut [u64], tsn: u32) -> SaidFreed
 pub fn acknowledge(head: Head, cells: &mut [u64], tsn: u32) -> Said
     ensures { λ r. ⌜ Acknowledge tsn head (now (cells .entry)) (r .head) (now (cells .exit)) (r .reply) ⌝ }
 {
-    let after = sender_calls::flight::acknowledge(head, cells, tsn);
+    let own = sender_head::by_numbers(head);
+    let after = sender_calls::flight::acknowledge(own, cells, tsn);
     let answer = after.bytes;
     let reply = flat::replies::number(answer as u64);
     let rest = after.head;
@@ -202,7 +210,8 @@ pub fn acknowledge(head: Head, cells: &mut [u64], tsn: u32) -> Said
 pub fn pop(head: Head, cells: &mut [u64], tsn: u32) -> SaidFragment
     ensures { λ r. ⌜ Pop tsn head (now (cells .entry)) (r .head) (now (cells .exit)) (r .reply) ⌝ }
 {
-    let after = sender_calls::flight::pop(head, cells, tsn);
+    let own = sender_head::by_numbers(head);
+    let after = sender_calls::flight::pop(own, cells, tsn);
     let answer = after.front;
     let reply = flat::replies::found(tsn, answer);
     let rest = after.head;

@@ -4,6 +4,9 @@
 pub mod table;
 
 use outbound_queue::OutboundQueue;
+use payload_queue::PayloadQueue;
+use pending_queue::PendingQueue;
+use ring::Ring;
 ghost use mathlib.Core.Path.{_≡_};
 ghost use mathlib.Core.List.{List};
 ghost use Prim.Native.Nat.{ℕ, _≤_};
@@ -29,6 +32,41 @@ pub fn new(tsn: u32, number: u64) -> Head
     Head {
         queue: queue,
         streams: 0,
+    }
+}
+
+// The same head, taken number by number. The compiler then keeps each number in a register; a copy of the whole, with its gaps, goes through
+// memory in pieces that are wider than what was stored there last, and waits for it.
+pub fn by_numbers(h: Head) -> Head
+    ensures { λ r. ⌜ r ≡ h ⌝ }
+{
+    Head {
+        queue: OutboundQueue {
+            pending: PendingQueue {
+                unordered: Ring {
+                    start: h.queue.pending.unordered.start,
+                    len: h.queue.pending.unordered.len,
+                },
+                ordered: Ring {
+                    start: h.queue.pending.ordered.start,
+                    len: h.queue.pending.ordered.len,
+                },
+                bytes: h.queue.pending.bytes,
+                selected: h.queue.pending.selected,
+                unordered_is_selected: h.queue.pending.unordered_is_selected,
+            },
+            inflight: PayloadQueue {
+                ring: Ring {
+                    start: h.queue.inflight.ring.start,
+                    len: h.queue.inflight.ring.len,
+                },
+                oldest: h.queue.inflight.oldest,
+                bytes: h.queue.inflight.bytes,
+            },
+            next_message_id: h.queue.next_message_id,
+            next_unstarted_message_id: h.queue.next_unstarted_message_id,
+        },
+        streams: h.streams,
     }
 }
 

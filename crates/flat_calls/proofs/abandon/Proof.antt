@@ -11,5 +11,6 @@ abandon-spec =
     (tie.spec
     (λ c κs. search needs)
     (λ c κs. search needs)
+    (λ c κs. search needs)
     (λ c. search needs)
-    (λ c. leans flatAbandoned (c .before .abandoned .ensures) (c .before .before .before .before .abandon .ensures)))
+    (λ c. leans flatAbandoned (c .before .abandoned .ensures) (rw (c .before .before .before .before .before .before .by-numbers .ensures) at (c .before .before .before .before .abandon .ensures))))

@@ -10,7 +10,8 @@ acknowledge-spec =
     tie.close
     (tie.spec
     (λ c κs. search needs)
+    (λ c κs. search needs)
     (λ c. search needs)
     (λ c κs. search needs)
     (λ c. search needs)
-    (λ c. goes numberIs (c .before .number .ensures) (c .before .before .before .before .acknowledge .ensures)))
+    (λ c. goes numberIs (c .before .number .ensures) (rw (c .before .before .before .before .before .before .by-numbers .ensures) at (c .before .before .before .before .acknowledge .ensures))))

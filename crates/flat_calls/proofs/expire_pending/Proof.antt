@@ -11,5 +11,6 @@ expire-pending-spec =
     (tie.spec
     (λ c κs. search needs)
     (λ c κs. search needs)
+    (λ c κs. search needs)
     (λ c. search needs)
-    (λ c. leans flatExpired (c .before .expired .ensures) (c .before .before .before .before .expire-pending .ensures)))
+    (λ c. leans flatExpired (c .before .expired .ensures) (rw (c .before .before .before .before .before .before .by-numbers .ensures) at (c .before .before .before .before .expire-pending .ensures))))

@@ -11,5 +11,6 @@ expire-pending-tail-spec =
     (tie.spec
     (λ c κs. search needs)
     (λ c κs. search needs)
+    (λ c κs. search needs)
     (λ c. search needs)
-    (λ c. leans flatTail (c .before .tail .ensures) (c .before .before .before .before .expire-pending-tail .ensures)))
+    (λ c. leans flatTail (c .before .tail .ensures) (rw (c .before .before .before .before .before .before .by-numbers .ensures) at (c .before .before .before .before .expire-pending-tail .ensures))))

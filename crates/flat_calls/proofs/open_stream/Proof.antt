@@ -11,5 +11,6 @@ open-stream-spec =
     (tie.spec
     (λ c κs. search needs)
     (λ c κs. search needs)
+    (λ c κs. search needs)
     (λ c. search needs)
-    (λ c. goes flatDone (c .before .done .ensures) (c .before .before .before .before .open-stream .ensures)))
+    (λ c. goes flatDone (c .before .done .ensures) (rw (c .before .before .before .before .before .before .by-numbers .ensures) at (c .before .before .before .before .open-stream .ensures))))

@@ -11,5 +11,6 @@ pop-spec =
     (tie.spec
     (λ c κs. search needs)
     (λ c κs. search needs)
+    (λ c κs. search needs)
     (λ c. search needs)
-    (λ c. goes (flatFound (c .before .before .before .before .before .args .tsn)) (c .before .found .ensures) (c .before .before .pop .ensures)))
+    (λ c. goes (flatFound (c .before .before .before .before .before .before .args .tsn)) (c .before .found .ensures) (rw (c .before .before .before .before .by-numbers .ensures) at (c .before .before .pop .ensures))))

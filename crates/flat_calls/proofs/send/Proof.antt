@@ -11,5 +11,6 @@ send-spec =
     (tie.spec
     (λ c κs. search needs)
     (λ c κs. search needs)
+    (λ c κs. search needs)
     (λ c. search needs)
-    (λ c. leans flatSent (c .before .sent .ensures) (c .before .before .before .before .send .ensures)))
+    (λ c. leans flatSent (c .before .sent .ensures) (rw (c .before .before .before .before .before .before .by-numbers .ensures) at (c .before .before .before .before .send .ensures))))

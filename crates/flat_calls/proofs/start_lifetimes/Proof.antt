@@ -11,5 +11,6 @@ start-lifetimes-spec =
     (tie.spec
     (λ c κs. search needs)
     (λ c κs. search needs)
+    (λ c κs. search needs)
     (λ c. search needs)
-    (λ c. leans flatDone (c .before .done .ensures) (c .before .before .before .before .start-lifetimes .ensures)))
+    (λ c. leans flatDone (c .before .done .ensures) (rw (c .before .before .before .before .before .before .by-numbers .ensures) at (c .before .before .before .before .start-lifetimes .ensures))))

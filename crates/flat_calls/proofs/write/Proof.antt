@@ -11,5 +11,6 @@ write-spec =
     (tie.spec
     (λ c κs. search needs)
     (λ c κs. search needs)
+    (λ c κs. search needs)
     (λ c. search needs)
-    (λ c. goes flatWritten (c .before .written .ensures) (c .before .before .before .before .write .ensures)))
+    (λ c. goes flatWritten (c .before .written .ensures) (rw (c .before .before .before .before .before .before .by-numbers .ensures) at (c .before .before .before .before .write .ensures))))
