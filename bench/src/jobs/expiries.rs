@@ -261,6 +261,7 @@ impl Job for StartLifetimes {
             let due = side.time(1 + u64::from(LIFETIME));
             watch.answers.flag(side.expire_pending(side.time(u64::from(LIFETIME))).is_none());
             watch.answers.freed(side.expire_pending(due));
+            watch.answers.chunk(side.send(due));
         }
         watch.finish()
     }
