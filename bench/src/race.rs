@@ -1,5 +1,5 @@
 //! All sides in turn, several rounds.
-use std::time::Instant;
+use std::time::{Duration, Instant};
 
 use crate::jobs::Job;
 use crate::lent::{Anchored, Ours};
@@ -70,18 +70,20 @@ fn round<J: Job>(job: &J, first: usize, repetitions: usize) -> Round {
     round
 }
 
-/// How many repetitions let a round of all sides take about so long, what prepares them counted in.
+/// How many repetitions let a round of all sides take about so long, what prepares them counted in. A round may take long because other work has
+/// interrupted it, so three must.
 fn repetitions<J: Job>(job: &J, milliseconds: u64) -> usize {
-    let mut count = 1;
-    loop {
+    let enough = Duration::from_millis(milliseconds);
+    let is_short = |count| {
         let start = Instant::now();
         round(job, OURS, count);
-        let passed = start.elapsed().as_nanos() as u64;
-        if passed >= milliseconds * 1_000_000 || count >= 1 << 22 {
-            return count;
-        }
+        start.elapsed() < enough
+    };
+    let mut count = 1;
+    while count < 1 << 22 && (0..3).any(|_| is_short(count)) {
         count *= 2;
     }
+    count
 }
 
 /// Only that all sides answer the same.
