@@ -1,6 +1,7 @@
 -- The stream goes into the slot behind the last, where there is one.
 use native.Mathlib.Omega.{arith}
-use mathlib.Core.Path.{sym}
+use mathlib.Core.Path.{refl, sym}
+use mathlib.Core.Bool.{true≢false}
 use Prim.Native.Nat.{_≤_, _<_}
 use denote.Ref.{now}
 use lib.ListN.{length}
@@ -22,7 +23,7 @@ returns c =
     let a = c .before .before .before .before .args in
     let ws = now (a .cells) in
     let h : roomOf ws ≤ length (tableOf (a .count) ws) = omega (arith, length-table (a .count) ws) in
-    (table-full (a .count) ws (a .stream) (omega arith), sym (le-ltb (length (tableOf (a .count) ws)) (roomOf ws) h))
+    (table-full (a .count) ws (a .stream) (omega arith), sym (le-ltb (length (tableOf (a .count) ws)) (roomOf ws) h), λ n. (refl, refl))
 
 add-more : tie.Need-add-more
 add-more c = search needs
@@ -39,7 +40,7 @@ returns-2 c =
     let ws = now (a .cells) in
     let x = c .before .before .store in
     let h : length (tableOf (a .count) ws) < roomOf ws = omega (arith, length-table (a .count) ws) in
-    (table-join (a .count) ws (x .last .0) (a .stream) (x .ensures) (omega arith), sym (lt-ltb (length (tableOf (a .count) ws)) (roomOf ws) h))
+    (table-join (a .count) ws (x .last .0) (a .stream) (x .ensures) (omega arith), sym (lt-ltb (length (tableOf (a .count) ws)) (roomOf ws) h), λ n. absurd (true≢false n))
 
 pub open-spec : {M : Type 1} → statement M
 open-spec =
