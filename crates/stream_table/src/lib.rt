@@ -52,7 +52,8 @@ pub fn find(count: usize, cells: &[u64], identifier: u16) -> Place
 pub fn open(count: usize, cells: &mut [u64], stream: Stream) -> Opened
     ensures { λ r. ⌜ (tableOf (r .count) (now (cells .exit)) ≡ pushed (roomOf (now (cells .entry))) (tableOf count (now (cells .entry))) stream) × (r .done ≡ ltb (length (tableOf count (now (cells .entry)))) (roomOf (now (cells .entry)))) × (r .done ≡ false → Stays count (now (cells .entry)) (r .count) (now (cells .exit))) ⌝ }
 {
-    if cells::room(cells) <= count {
+    let room = cells::room(cells);
+    if room <= count {
         return Opened {
             count: count,
             done: false,
