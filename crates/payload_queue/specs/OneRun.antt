@@ -118,7 +118,7 @@ module _ (n : ℕ) where
     pub giving-end : length l ≤ i → (sum ≡ heldFrom n from l) × (m ≡ givenUpFrom n from l)
     giving-end h = over (given-end m i (omega (arith, g .same)))
 
-  -- ---- what is given up holds so much less
+  -- ---- the entries hold so much less for it
 
   run-bytes : (l : List Chunk) → bytes (givenUpRun n l) + heldRun n l ≡ bytes l
   run-bytes [] = refl
