@@ -66,7 +66,7 @@ module _ (n : ℕ) where
   more-leads c l h a = (
     ap (λ (r : List Chunk). givenUp n c ∷ r) (a .0) ∙ sym (ap (λ (b : Bool). if b then (givenUp n c ∷ givenUpRun n l) else (c ∷ l)) h),
     ap (λ (b : Bool). bytes (if b then (c ∷ keep (isOf n) l) else keep (isOf n) l)) h ∙ ap (λ (k : ℕ). c .length + k) (a .1)
-    ∙ sym (ap (λ (b : Bool). if b then c .length + heldRun n l else 0) h),
+        ∙ sym (ap (λ (b : Bool). if b then c .length + heldRun n l else 0) h),
   )
 
   -- ---- from an entry of the message on
