@@ -1,12 +1,11 @@
 -- A message is abandoned: what each way out of the calls comes to, of a sender that is a variable.
 use mathlib.Core.Path.{_≡_, refl, sym, ap, ap₂, _∙_}
-use mathlib.Core.Logic.{_≢_}
 use mathlib.Core.Bool.{Bool, true, false, not}
 use mathlib.Core.Option.{Option, none, some}
 use mathlib.Core.List.{List, [], _∷_, _++_, map, append-nil}
-use Prim.Native.Nat.{ℕ, zero, suc, _+_, _≤_, _<_}
+use Prim.Native.Nat.{ℕ, _+_, _<_}
 use native.Mathlib.Omega.{arith}
-use lib.ListN.{length, getElem?, length-map}
+use lib.ListN.{length, length-map}
 use borrow.Author.Tests.{lt-ltb, eq-eqb}
 use Rattle.limits.specs.Limits.{Room}
 use Rattle.model.specs.declared.Abandoned.{Abandoned}
