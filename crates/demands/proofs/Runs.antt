@@ -3,8 +3,8 @@ use Prim.Native.Nat.{ℕ, suc, _≤_, _<_}
 use native.Mathlib.Nat.{le-refl}
 use native.Mathlib.Omega.{arith}
 use mathlib.Core.Path.{_≡_, refl, sym, ap, subst, _∙_}
-use mathlib.Core.Logic.{_≢_}
-use mathlib.Core.Bool.{false, not}
+use mathlib.Core.Logic.{_≢_, _⊎_, inl, inr}
+use mathlib.Core.Bool.{true, false, not}
 use mathlib.Core.Option.{Option, none, some}
 use mathlib.Core.List.{List, [], _∷_, _++_}
 use lib.ListN.{length}
@@ -24,7 +24,7 @@ use Rattle.demands.specs.States.{Contiguous, Ascending, dropRun, Has}
 use Rattle.demands.proofs.Basic.{if-case, bool-case}
 use Rattle.demands.proofs.Each.{each-weaken, each-append, each-passing, none-kept}
 use Rattle.demands.proofs.Ring.{Ring, floor-behind, From, ring-weaken, NotOf, none-of, whole-waits, ring-ascending}
-use Rattle.demands.proofs.Valid.{Valid, Waiting, FlightFits, Begun, rank, other, both, want, lastNumber, number-is, front, continues, not-beside, not-want, none-pending, flies-begun, sheets}
+use Rattle.demands.proofs.Valid.{Valid, Waiting, FlightFits, Begun, sending, Flew, Last, If, rank, other, both, want, lastNumber, number-is, front, continues, not-beside, not-want, none-pending, flies-begun, sheets}
 
 -- ---- leading runs
 
@@ -92,6 +92,19 @@ module _ {room : Room} (s : Sender) (v : Valid room s) where
 
   pub contiguous : Contiguous (numberUnderWay (s .pending)) (s .flight .entries)
   contiguous = subst (λ (w : Option ℕ). Contiguous w (s .flight .entries)) (sym (number-is v)) (v .chain)
+
+  pub unended : (n : ℕ) → numberUnderWay (s .pending) ≡ some n → Each (λ c. isOf n c ≡ true → c .ending ≡ false) (s .flight .entries)
+  unended n e =
+      let q = sends (s .pending .underWay) (sym (number-is v) ∙ e) (v .last-sent) in
+      each-weaken _ _ (λ c z i. unending c (ap (v .fate) (eqb-true (c .message .number) n i) ∙ q) (z .flew)) (s .flight .entries) (v .flown)
+    where
+      sends : (w : UnderWay) → lastNumber w (v .last) ≡ some n → If w (Last (v .fate) (v .sheet) (s .numbers .unstarted) (v .last .message)) → v .fate n ≡ sending
+      sends Idle e h = let y : none ≡ some n = e in let z : _≡_ {A = ℕ} 0 1 = cc in absurd (omega arith)
+      sends (Sending l) e h = let q : v .last .message .number ≡ n = cc in ap (v .fate) (sym q) ∙ h .sends
+
+      unending : (c : Chunk) → v .fate (c .message .number) ≡ sending → Flew (v .fate (c .message .number)) (c .ending) → c .ending ≡ false
+      unending c q (inl o) = absurd (omega (arith, ap rank q, ap rank o))
+      unending c q (inr o) = o .1
 
   -- ---- what the chunks of a message share, their order, and room
 

@@ -25,7 +25,7 @@ use Rattle.demands.proofs.Each.{each-weaken, each-append}
 use Rattle.demands.proofs.Lists.{lists-head}
 use Rattle.demands.proofs.Chunks.{Chunked, chunked-seen, reached-chunked}
 use Rattle.demands.proofs.Valid.{Valid, starts}
-use Rattle.demands.proofs.Runs.{head-run, flight-run, flight-room, whole, partly, head-rest, terminator-room, contiguous, shared, ordered}
+use Rattle.demands.proofs.Runs.{head-run, flight-run, flight-room, whole, partly, head-rest, terminator-room, contiguous, unended, shared, ordered}
 use Rattle.demands.proofs.Steps.{reached}
 
 -- with nothing under way the head is in the ordered ring only if the other is empty
@@ -57,6 +57,7 @@ kept room s v k =
       headRest = head-rest s v;
       terminatorRoom = terminator-room s v;
       contiguous = contiguous s v;
+      unended = unended s v;
       shared = shared s v;
       ordered = ordered s v;
       headRun = head-run s v;

@@ -116,6 +116,8 @@ pub record Kept (room : Room) (s : Sender) : Type 0 where
   pub headRest : (c : Chunk) → head (s .pending) ≡ some c → c .beginning ≡ false → numberUnderWay (s .pending) ≡ some (c .message .number)
   pub terminatorRoom : (n : ℕ) → numberUnderWay (s .pending) ≡ some n → length (s .flight .entries) < room .flight
   pub contiguous : Contiguous (numberUnderWay (s .pending)) (s .flight .entries)
+  -- no entry of the message under way ends it, so its entries are the newest
+  pub unended : (n : ℕ) → numberUnderWay (s .pending) ≡ some n → Each (λ c. isOf n c ≡ true → c .ending ≡ false) (s .flight .entries)
   -- the chunks of a message, pending or in flight, share U, type, reliability, SSN and deadline
   pub shared : (n : ℕ) → (x : Message) × Each (λ c. c .message ≡ x) (keep (isOf n) (s .pending .ordered ++ s .pending .unordered ++ s .flight .entries))
   -- rings are in the order of the message numbers

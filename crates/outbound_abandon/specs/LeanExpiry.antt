@@ -3,6 +3,7 @@
 use mathlib.Core.Option.{Option, none, some}
 use mathlib.Core.List.{List}
 use Prim.Native.Nat.{ℕ}
+use lib.ListN.{length}
 use lib.Dec.{ltb}
 use Rattle.limits.specs.Limits.{Room, clockMax}
 use Rattle.limits.specs.Refusals.{beyondLimit}
@@ -53,14 +54,15 @@ ExpiresHead now q ws q′ ws′ answer =
 abbrev pub ExpiresHeadOrStays : (now : ℕ) → OutboundQueue → List ℕ → OutboundQueue → List ℕ → Expired → Type 0
 ExpiresHeadOrStays now q ws q′ ws′ answer = ExpiresHead now q ws q′ ws′ answer × Spares (toldExpired answer .number) q ws q′ ws′
 
--- ---- the rest of a message that was sent in part expires
+-- ---- the rest of a message that was sent in part expires: its entries are the newest
 
 abbrev pub leanlyTailExpiring : Option Chunk → Room → (now : ℕ) → Sender → Out TailExpired
 leanlyTailExpiring none room now s = same TailExpired.Nothing s
 leanlyTailExpiring (some c) room now s =
     let x = c .message in
+    let i = length (s .flight .entries) in
     if tailExpires now c then
-    record { after = leanlyAbandoned room (x .number) s; says = TailExpired.Message (x .stream) (x .number) (leanlyHeld (x .number) s) }
+    record { after = leanlyAbandoned room (x .number) i s; says = TailExpired.Message (x .stream) (x .number) (leanlyHeld (x .number) i s) }
     else same TailExpired.Nothing s
 
 unfoldable pub leanExpireTail : Room → (now : ℕ) → Sender → Out TailExpired

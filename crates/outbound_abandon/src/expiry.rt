@@ -102,7 +102,7 @@ fn tail_is_expired(chunk: Chunk, clock: u64) -> bool
     is_overdue(chunk, clock)
 }
 
-// Gives up the message under way, if its rest has expired.
+// Gives up the message under way, if its rest has expired: its entries are the newest in flight.
 pub fn expire_pending_tail(q: OutboundQueue, cells: &mut [u64], clock: u64) -> TailExpiring
     ensures { λ r. ⌜ LeansInOrStays toldTail (λ room. leanExpireTail room clock) (λ room. expirePendingTail clock) q (now (cells .entry)) (r .queue) (now (cells .exit)) (r .answer) ⌝ }
 {
@@ -126,7 +126,8 @@ pub fn expire_pending_tail(q: OutboundQueue, cells: &mut [u64], clock: u64) -> T
         };
     }
     let message = chunk.message;
-    let given = super::give_up(q, cells, message.number);
+    let near = outbound_queue::asks::inflight_len(q, cells);
+    let given = super::give_up(q, cells, near, message.number);
     let after = given.queue;
     TailExpiring {
         queue: after,

@@ -1,5 +1,6 @@
-// A message is abandoned: one that was sent in part is cut off behind a terminator. Its leading run in each ring goes: in the states that calls
-// reach that is all of it (`Does`: what the call does of any state at all, and that in a `Good` one this is 01's).
+// A message is abandoned: one that was sent in part is cut off behind a terminator. The run of its entries around a place of the flight is given
+// up, and its leading run in each ring goes: in the states that calls reach that is all of it (`Does`: what the call does of any state at all, and
+// that in a `Good` one this is 01's).
 pub mod expiry;
 pub mod overdue;
 
@@ -42,11 +43,11 @@ pub struct GivenUp {
     pub bytes: u64,
 }
 
-// A message is given up in flight, and what is pending of it goes; a terminator stands for that. The bytes are all that it held.
-pub fn give_up(q: OutboundQueue, cells: &mut [u64], number: u64) -> GivenUp
-    ensures { λ r. ⌜ GivesUp number q (now (cells .entry)) (r .queue) (now (cells .exit)) (r .bytes) ⌝ }
+// A message is given up in flight, around a place, and what is pending of it goes; a terminator stands for that. The bytes are all that it held.
+pub fn give_up(q: OutboundQueue, cells: &mut [u64], near: usize, number: u64) -> GivenUp
+    ensures { λ r. ⌜ GivesUp number near q (now (cells .entry)) (r .queue) (now (cells .exit)) (r .bytes) ⌝ }
 {
-    let freed = outbound_queue::flight_steps::give_up_entries(q, cells, number);
+    let freed = outbound_queue::flight_steps::give_up_entries(q, cells, near, number);
     let removed = outbound_queue::steps::remove_pending(freed.queue, cells, number);
     let bytes = freed.bytes + removed.bytes;
     let rest = removed.queue;
@@ -85,7 +86,8 @@ pub fn abandon(q: OutboundQueue, cells: &mut [u64], tsn: u32) -> Abandoning
             },
         };
     }
-    let given = give_up(q, cells, message.number);
+    let near = payload_queue::place(q.inflight.oldest, tsn);
+    let given = give_up(q, cells, near, message.number);
     let after = given.queue;
     Abandoning {
         queue: after,

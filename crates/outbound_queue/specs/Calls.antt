@@ -12,12 +12,13 @@ use Rattle.model.specs.declared.Found.{Found}
 use Rattle.model.specs.declared.Lane.the-variants.{Ordered}
 use Rattle.model.specs.declared.Message.{Message}
 use Rattle.model.specs.declared.Stream.{Stream}
-use Rattle.model.specs.Lists.{keep, last}
-use Rattle.model.specs.State.{Sender, Pending, Flight, Out, isOf, withPending, withRing}
-use Rattle.model.specs.Rings.{head, lowered, bytes, givenUp}
+use Rattle.model.specs.Lists.{last}
+use Rattle.model.specs.State.{Sender, Pending, Flight, Out, withPending, withRing}
+use Rattle.model.specs.Rings.{head, lowered, bytes}
 use Rattle.model.specs.Flight.{found}
 use Rattle.rows.specs.Spared.{Spares}
 use Rattle.payload_queue.specs.Queue.{changed, filed}
+use Rattle.payload_queue.specs.OneRun.{heldNear, givenUpNear}
 use Rattle.payload_queue.specs.Model.{withFlight}
 use Rattle.pending_queue.specs.Fragments.{fitsIn, withFragments}
 use Rattle.pending_queue.specs.Fronts.{popped}
@@ -103,7 +104,7 @@ Joins x m o l q ws q′ ws′ done =
 abbrev pub Files : Chunk → OutboundQueue → List ℕ → OutboundQueue → List ℕ → Type 0
 Files c q ws q′ ws′ = Becomes (λ s. withFlight (filed (ringRoom ws) c (s .flight)) s) q ws q′ ws′
 
--- every entry of a message is given up: the bytes that it held
-abbrev pub Frees : (number : ℕ) → OutboundQueue → List ℕ → OutboundQueue → List ℕ → (held : ℕ) → Type 0
-Frees n q ws q′ ws′ held =
-    Becomes (λ s. withFlight (changed (map (givenUp n)) (s .flight)) s) q ws q′ ws′ × (held ≡ bytes (keep (isOf n) (flyingIn q ws .entries)))
+-- the run of a message's entries around a place is given up: the bytes that it held
+abbrev pub Frees : (number near : ℕ) → OutboundQueue → List ℕ → OutboundQueue → List ℕ → (held : ℕ) → Type 0
+Frees n i q ws q′ ws′ held =
+    Becomes (λ s. withFlight (changed (givenUpNear n i) (s .flight)) s) q ws q′ ws′ × (held ≡ heldNear n i (flyingIn q ws .entries))

@@ -1,6 +1,6 @@
 -- What the queue's numbers and the lent cells mean as the model's sender, and what the calls lean on of the states that calls reach.
 use mathlib.Core.Path.{_≡_, refl, sym, ap, ap₂, subst, _∙_}
-use mathlib.Core.Bool.{false, not}
+use mathlib.Core.Bool.{true, false, not}
 use mathlib.Core.Option.{some}
 use mathlib.Core.List.{List, []}
 use Prim.Native.Nat.{ℕ, _+_, _-_, _*_, _/_, _≤_, _<_, min}
@@ -13,8 +13,8 @@ use Rattle.model.specs.declared.Stream.{Stream}
 use Rattle.model.specs.Lists.{keep}
 use Rattle.model.specs.State.{Sender, Pending, Flight, fresh, withStreams, at, isOf}
 use Rattle.model.specs.Rings.{head}
-use Rattle.demands.specs.Words.{numberUnderWay}
-use Rattle.demands.specs.States.{Kept, Ascending, Has, dropRun}
+use Rattle.demands.specs.Words.{Each, numberUnderWay}
+use Rattle.demands.specs.States.{Kept, Contiguous, Ascending, Has, dropRun}
 use Rattle.rows.specs.Parts.{part, patch, part-length, patch-length, part-same, part-before, part-after}
 use Rattle.cells.specs.Slots.{limit, roomOf}
 use Rattle.payload_queue.specs.declared.PayloadQueue.{PayloadQueue}
@@ -80,11 +80,22 @@ pub record Good (room : Room) (s : Sender) : Type 0 where
   pub partly : (l : Lane) (n : ℕ) → Has n (at l (s .pending)) → Has n (s .flight .entries) → numberUnderWay (s .pending) ≡ some n
   pub headRest : (c : Chunk) → head (s .pending) ≡ some c → c .beginning ≡ false → numberUnderWay (s .pending) ≡ some (c .message .number)
   pub terminatorRoom : (n : ℕ) → numberUnderWay (s .pending) ≡ some n → length (s .flight .entries) < room .flight
+  pub contiguous : Contiguous (numberUnderWay (s .pending)) (s .flight .entries)
+  pub unended : (n : ℕ) → numberUnderWay (s .pending) ≡ some n → Each (λ c. isOf n c ≡ true → c .ending ≡ false) (s .flight .entries)
 
 -- and so it is in all of these
 pub kept-good : {room : Room} {s : Sender} → Kept room s → Good room s
 kept-good k =
-    record { ordered = k .ordered; headRun = k .headRun; flightRun = k .flightRun; partly = k .partly; headRest = k .headRest; terminatorRoom = k .terminatorRoom }
+    record {
+      ordered = k .ordered;
+      headRun = k .headRun;
+      flightRun = k .flightRun;
+      partly = k .partly;
+      headRest = k .headRest;
+      terminatorRoom = k .terminatorRoom;
+      contiguous = k .contiguous;
+      unended = k .unended;
+    }
 
 -- what a call promises that does less than 01 says: of any state what the code does, and of those that calls reach what 01 says
 abbrev pub Does : {A : Type 0} → Room → Sender → (got lean said : A) → Type 0

@@ -38,14 +38,15 @@ pub fn file(q: OutboundQueue, cells: &mut [u64], chunk: Chunk) -> OutboundQueue
     }
 }
 
-// Gives up every entry of a message.
-pub fn give_up_entries(q: OutboundQueue, cells: &mut [u64], number: u64) -> Freed
-    ensures { λ r. ⌜ Frees number q (now (cells .entry)) (r .queue) (now (cells .exit)) (r .bytes) ⌝ }
+// Gives up the run of a message's entries around a place of the flight.
+pub fn give_up_entries(q: OutboundQueue, cells: &mut [u64], near: usize, number: u64) -> Freed
+    ensures { λ r. ⌜ Frees number near q (now (cells .entry)) (r .queue) (now (cells .exit)) (r .bytes) ⌝ }
 {
     let k = cells.len() / 24 * 8;
     let freed = payload_queue::marks::abandon_message(
         q.inflight,
         &mut cells[k + k..k + k + k],
+        near,
         number,
     );
     let pending = q.pending;

@@ -8,13 +8,10 @@ use native.Mathlib.Omega.{arith}
 use lib.ListN.{length, getD}
 use lib.Dec.{ltb}
 use Rattle.model.specs.declared.Chunk.{Chunk}
-use Rattle.model.specs.Lists.{if_then_else_, keep, adjust, total}
-use Rattle.model.specs.State.{isOf}
-use Rattle.model.specs.Rings.{bytes, marked, givenUp}
+use Rattle.model.specs.Lists.{if_then_else_, adjust}
+use Rattle.model.specs.Rings.{bytes}
 use Rattle.model.specs.Flight.{acknowledged, toRetransmit}
-use Rattle.rows.specs.Walks.{keep-total}
 use Rattle.chunk_slot.specs.Chunks.{blankChunk}
-use Rattle.chunk_slot.specs.Changes.{heldOf}
 use Rattle.ring.specs.declared.Ring.{Ring}
 use Rattle.rows.specs.Joins.{pushed}
 use Rattle.ring.specs.Held.{held}
@@ -43,17 +40,6 @@ bytes-acked (suc i) (c ∷ l) = omega (arith, bytes-acked i l)
 
 pub bytes-marked : (l : List Chunk) → bytes (map toRetransmit l) ≡ bytes l
 bytes-marked l = bytes-map toRetransmit (λ (c : Chunk). refl) l
-
-pub bytes-given : (number : ℕ) (l : List Chunk) → bytes (map (givenUp number) l) + bytes (keep (isOf number) l) ≡ bytes l
-bytes-given number l = ap (λ (n : ℕ). bytes (map (givenUp number) l) + n) (keep-total (isOf number) (λ (c : Chunk). c .length) l) ∙ each l
-  where
-    one : (b : Bool) (c : Chunk) → (if b then marked 0 (c .acked) true false c else c) .length + (if b then c .length else 0) ≡ c .length
-    one true c = omega arith
-    one false c = omega arith
-
-    each : (m : List Chunk) → bytes (map (givenUp number) m) + total (heldOf number) m ≡ bytes m
-    each [] = refl
-    each (c ∷ m) = omega (arith, one (isOf number c) c, each m)
 
 -- ---- so the counter follows
 

@@ -4,12 +4,11 @@ use model::Chunk;
 use ring::Ring;
 ghost use mathlib.Core.Path.{_≡_};
 ghost use mathlib.Core.List.{map};
-ghost use Rattle.model.specs.Lists.{keep};
-ghost use Rattle.model.specs.State.{inFlight, isOf};
-ghost use Rattle.model.specs.Rings.{bytes, givenUp};
+ghost use Rattle.model.specs.State.{inFlight};
 ghost use Rattle.model.specs.Flight.{acknowledged, toRetransmit};
 ghost use Rattle.ring.specs.Held.{held};
 ghost use Rattle.payload_queue.specs.Queue.{Becomes, Tells, changed, acked, heldIn};
+ghost use Rattle.payload_queue.specs.OneRun.{firstOf, heldFrom, givenUpFrom, heldNear, givenUpNear};
 
 // The bytes that the entry held.
 pub struct Acked {
@@ -53,16 +52,35 @@ pub fn mark_as_acked(q: PayloadQueue, cells: &mut [u64], tsn: u32) -> Acked
     }
 }
 
-// ---- all entries
+// ---- the entries of a message
 
-// The bytes that the entries of the message hold, which are given up on the way.
-fn give_up_all(ring: Ring, cells: &mut [u64], number: u64) -> u64
-    ensures { λ r. ⌜ (r ≡ bytes (keep (isOf number) (held ring (now (cells .entry))))) × (held ring (now (cells .exit)) ≡ map (givenUp number) (held ring (now (cells .entry)))) ⌝ }
+// Where the run of a message's entries begins that reaches up to a place.
+fn first_of(ring: Ring, cells: &[u64], near: usize, number: u64) -> usize
+    ensures { λ r. ⌜ r ≡ firstOf number near (held ring (now (cells .entry))) ⌝ }
+{
+    let mut i = near;
+    while 0 < i {
+        let before = ring::parts::nth_number(ring, cells, i - 1);
+        if before != number {
+            return i;
+        }
+        i -= 1;
+    }
+    0
+}
+
+// The bytes that the run of a message's entries from a place on holds, which are given up on the way.
+fn give_up_run(ring: Ring, cells: &mut [u64], from: usize, number: u64) -> u64
+    ensures { λ r. ⌜ (r ≡ heldFrom number from (held ring (now (cells .entry)))) × (held ring (now (cells .exit)) ≡ givenUpFrom number from (held ring (now (cells .entry)))) ⌝ }
 {
     let n = ring::count(ring, cells);
     let mut sum: u64 = 0;
-    let mut i = 0;
+    let mut i = from;
     while i < n {
+        let of = ring::parts::nth_number(ring, cells, i);
+        if of != number {
+            return sum;
+        }
         let released = ring::parts::give_up_nth(ring, cells, i, number);
         sum += released as u64;
         i += 1;
@@ -70,12 +88,14 @@ fn give_up_all(ring: Ring, cells: &mut [u64], number: u64) -> u64
     sum
 }
 
-// Gives up every entry of a message, and answers the bytes that they held.
-pub fn abandon_message(q: PayloadQueue, cells: &mut [u64], number: u64) -> Freed
-    ensures { λ r. ⌜ Tells (changed (map (givenUp number))) (λ f. bytes (keep (isOf number) (f .entries))) q (now (cells .entry)) (r .queue) (now (cells .exit)) (r .bytes) ⌝ }
+// Gives up the run of a message's entries around a place, and answers the bytes that they held. In every state that calls reach a message
+// has no other entries.
+pub fn abandon_message(q: PayloadQueue, cells: &mut [u64], near: usize, number: u64) -> Freed
+    ensures { λ r. ⌜ Tells (changed (givenUpNear number near)) (λ f. heldNear number near (f .entries)) q (now (cells .entry)) (r .queue) (now (cells .exit)) (r .bytes) ⌝ }
 {
     let ring = q.ring;
-    let released = give_up_all(ring, cells, number);
+    let from = first_of(ring, cells, near, number);
+    let released = give_up_run(ring, cells, from, number);
     let left = std::num::wrapping_sub_u64(q.bytes, released);
     Freed {
         queue: PayloadQueue {
@@ -86,6 +106,8 @@ pub fn abandon_message(q: PayloadQueue, cells: &mut [u64], number: u64) -> Freed
         bytes: released,
     }
 }
+
+// ---- all entries
 
 // Every entry that is neither acknowledged nor abandoned is to be retransmitted. The queue's numbers stay.
 pub fn mark_all_to_retransmit(q: PayloadQueue, cells: &mut [u64])

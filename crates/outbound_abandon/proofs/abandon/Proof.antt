@@ -35,6 +35,9 @@ returns-2 c =
     let e = sym (c .before .before .before .before .before .get .ensures) ∙ x .1 in
     (λ room ts h. does (λ g. lean-abandon g (a .tsn)) (abandon-again room (a .tsn) (senderOf ts (a .q) (now (a .cells))) (x .0 .0) e (c .if1 .taken)), λ k. k)
 
+place-requires : tie.Need-place-requires
+place-requires c κs = search needs
+
 give-up-requires : tie.Need-give-up-requires
 give-up-requires c κs = search needs
 
@@ -43,11 +46,12 @@ same-length-3 c = search needs
 
 returns-3 : tie.Need-returns-3
 returns-3 c =
-    let a = c .before .before .before .before .before .before .before .before .before .before .before .before .before .args in
-    let x = c .before .before .before .before .before .before .before .before .entry .given in
-    let e = sym (c .before .before .before .before .before .before .before .before .before .before .get .ensures) ∙ x .1 in
+    let a = c .before .before .before .before .before .before .before .before .before .before .before .before .before .before .args in
+    let x = c .before .before .before .before .before .before .before .before .before .entry .given in
+    let e = sym (c .before .before .before .before .before .before .before .before .before .before .before .get .ensures) ∙ x .1 in
+    let i = c .before .before .before .before .before .place .ensures in
     let u = c .before .before .before .give-up .ensures in (
-      λ room ts h. let r = u .0 room ts h in does (λ g. lean-abandon g (a .tsn)) (abandon-one room (a .tsn) (senderOf ts (a .q) (now (a .cells))) (x .0 .0) e (c .before .before .before .before .before .if1 .left) (r .0) (r .1)),
+      λ room ts h. let r = u .0 room ts h in does (λ g. lean-abandon g (a .tsn)) (abandon-one room (a .tsn) (senderOf ts (a .q) (now (a .cells))) (x .0 .0) e (c .before .before .before .before .before .before .if1 .left) i (r .0) (r .1)),
       u .1,
     )
 
@@ -62,6 +66,7 @@ abandon-spec =
     returns
     same-length-2
     returns-2
+    place-requires
     give-up-requires
     same-length-3
     returns-3)

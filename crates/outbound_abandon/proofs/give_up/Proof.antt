@@ -4,12 +4,12 @@ use Prim.Native.Nat.{ℕ, _/_, min}
 use native.Mathlib.Omega.{arith}
 use denote.Ref.{now}
 use lib.ListN.{length}
-use Rattle.model.specs.State.{isOf}
 use Rattle.cells.specs.Slots.{limit}
 use Rattle.ring.specs.Sums.{held-bytes}
+use Rattle.payload_queue.specs.OneRun.{firstOf, from-bytes}
 use Rattle.pending_queue.specs.Runs.{runs-bytes}
 use Rattle.outbound_queue.specs.Outbound.{ringsIn, ringRoom, waiting, flying, senderOf}
-use Rattle.outbound_abandon.specs.Abandons.{gives-none, gives-one, gives-held, keep-bytes}
+use Rattle.outbound_abandon.specs.Abandons.{gives-none, gives-one, gives-held}
 use borrow.Author.Needs.{needs}
 use Rattle.outbound_abandon.proofs.give_up.Statement.{statement}
 use Rattle.outbound_abandon.proofs.give_up.Tie as tie
@@ -31,7 +31,7 @@ add-bytes c =
       arith,
       g .ensures .1,
       c .before .before .remove-pending .ensures .1,
-      keep-bytes (isOf (a .number)) (flying (a .q) f .entries),
+      from-bytes (a .number) (firstOf (a .number) (a .near) (flying (a .q) f .entries)) (flying (a .q) f .entries),
       held-bytes (a .q .inflight .ring) (f .flight),
       runs-bytes (a .number) (waiting q r),
       held-bytes (q .pending .unordered) (r .unordered),
@@ -53,7 +53,7 @@ returns c =
     let g = c .before .before .before .before .before .before .before .before .before .give-up-entries .ensures in
     let r = c .before .before .before .before .before .remove-pending .ensures in
     let n = sym (r .2) ∙ c .enum-told .given .1 in (
-      λ room ts h. let s = senderOf ts (a .q) (now (a .cells)) in (gives-none room (a .number) s (g .0 .0 ts) (r .0 .0 ts) n, gives-held (a .number) s (g .0 .0 ts) (g .1) (r .1)),
+      λ room ts h. let s = senderOf ts (a .q) (now (a .cells)) in (gives-none room (a .number) (a .near) s (g .0 .0 ts) (r .0 .0 ts) n, gives-held (a .number) (a .near) s (g .0 .0 ts) (g .1) (r .1)),
       λ k. r .0 .1 (g .0 .1 k),
     )
 
@@ -80,8 +80,8 @@ returns-2 c =
     let e = g .ensures in (
       λ room ts h.
           let s = senderOf ts (a .q) (now (a .cells)) in (
-            gives-one room (a .number) s (e .0 .0 ts) (r .0 .0 ts) (x .0 .0) n (c .before .before .before .terminate .ensures) (room-stays ∙ sym h) (f .0 ts),
-            gives-held (a .number) s (e .0 .0 ts) (e .1) (r .1),
+            gives-one room (a .number) (a .near) s (e .0 .0 ts) (r .0 .0 ts) (x .0 .0) n (c .before .before .before .terminate .ensures) (room-stays ∙ sym h) (f .0 ts),
+            gives-held (a .number) (a .near) s (e .0 .0 ts) (e .1) (r .1),
           ),
       λ k. f .1 (r .0 .1 (e .0 .1 k)),
     )

@@ -45,6 +45,9 @@ returns-3 c =
     let n = sym (c .before .tail-is-expired .ensures) ∙ not-true _ (c .if2 .taken) in
     ((λ room ts h. does (λ g. lean-expire-tail g (a .clock)) (tail-not room (a .clock) (senderOf ts (a .q) (now (a .cells))) (c .before .before .before .before .before .before .before .if1 .left) (x .0 .0) e n), λ k. k), λ n. absurd (n refl))
 
+inflight-len-requires : tie.Need-inflight-len-requires
+inflight-len-requires c κs = search needs
+
 give-up-requires : tie.Need-give-up-requires
 give-up-requires c κs = search needs
 
@@ -53,12 +56,13 @@ same-length-3 c = search needs
 
 returns-4 : tie.Need-returns-4
 returns-4 c =
-    let a = c .before .before .before .before .before .before .before .before .before .before .before .before .before .before .before .args in
-    let x = c .before .before .before .before .before .before .before .before .before .front .given in
-    let e = sym (c .before .before .before .before .before .before .before .before .before .before .before .peek-pending .ensures) ∙ x .1 in
-    let y = sym (c .before .before .before .before .before .before .before .tail-is-expired .ensures) ∙ not-false _ (c .before .before .before .before .before .before .if2 .left) in
+    let a = c .before .before .before .before .before .before .before .before .before .before .before .before .before .before .before .before .before .args in
+    let x = c .before .before .before .before .before .before .before .before .before .before .before .front .given in
+    let e = sym (c .before .before .before .before .before .before .before .before .before .before .before .before .before .peek-pending .ensures) ∙ x .1 in
+    let y = sym (c .before .before .before .before .before .before .before .before .before .tail-is-expired .ensures) ∙ not-false _ (c .before .before .before .before .before .before .before .before .if2 .left) in
+    let i = c .before .before .before .before .before .inflight-len .ensures in
     let u = c .before .before .before .give-up .ensures in (
-      (λ room ts h. let r = u .0 room ts h in does (λ g. lean-expire-tail g (a .clock)) (tail-one room (a .clock) (senderOf ts (a .q) (now (a .cells))) (c .before .before .before .before .before .before .before .before .before .before .before .before .before .if1 .left) (x .0 .0) e y (r .0) (r .1)), u .1),
+      (λ room ts h. let r = u .0 room ts h in does (λ g. lean-expire-tail g (a .clock)) (tail-one room (a .clock) (senderOf ts (a .q) (now (a .cells))) (c .before .before .before .before .before .before .before .before .before .before .before .before .before .before .before .if1 .left) (x .0 .0) e y i (r .0) (r .1)), u .1),
       λ n. absurd (n refl),
     )
 
@@ -75,6 +79,7 @@ expire-pending-tail-spec =
     tail-is-expired-requires
     same-length-2
     returns-3
+    inflight-len-requires
     give-up-requires
     same-length-3
     returns-4)
