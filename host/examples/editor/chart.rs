@@ -225,7 +225,13 @@ impl<'a> Chart<'a> {
         let (from, to) = (self.x(DOWN.0), self.x(DOWN.1));
         let band = format!("<rect x='{from:.1}' y='{TOP}' width='{:.1}' height='{:.1}' fill='url(#down)'/>\n", to - from, self.lanes_top - TOP);
         self.put(&band);
-        self.put(&text((from + to) / 2.0, bottom - 8.0, 12.0, SOFT, "middle", "link down"));
+        let middle = (from + to) / 2.0;
+        self.put(&format!(
+            "<rect x='{:.1}' y='{:.1}' width='62' height='17' rx='3' fill='#fff' fill-opacity='0.85'/>\n",
+            middle - 31.0,
+            bottom - 21.0
+        ));
+        self.put(&text(middle, bottom - 8.5, 12.0, SOFT, "middle", "link down"));
         // TSNs.
         for at in (0..self.tsns).step_by(20) {
             let y = self.y(at);

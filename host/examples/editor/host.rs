@@ -129,7 +129,7 @@ pub struct Host {
     again: VecDeque<u32>,
     missing: BTreeMap<u32, u32>,
     twice: BTreeSet<u32>,
-    forwarded: Option<(u64, u32)>,
+    forwarded: Option<u32>,
     pub forwards: usize,
     pub timeouts: usize,
 }
@@ -273,7 +273,8 @@ impl Host {
     pub fn step(&mut self, now: u64, link: &mut Link) -> Result<(), Refusal> {
         self.sender.start_timed_messages(now)?;
         self.expire_inflight(now)?;
-        if self.timers.next_timeout().is_some_and(|due| due <= now) && self.timers.is_expired(Timer::T3RTX, now)?.expired {
+        let fired = self.timers.next_timeout().is_some_and(|due| due <= now) && self.timers.is_expired(Timer::T3RTX, now)?.expired;
+        if fired {
             self.timeouts += 1;
             self.congestion.timed_out(self.sender.next_tsn());
             self.sender.mark_all_to_retransmit();
@@ -284,14 +285,13 @@ impl Host {
             self.send_again(now, link);
             self.send_new(now, link)?;
         }
-        self.forward(now, link);
-        match self.sender.earliest_outstanding_tsn() {
-            Some(_) => self.timers.restart_if_stale(Timer::T3RTX, now, self.rto.get_rto()),
-            None => {
-                self.timers.stop(Timer::T3RTX);
-                Ok(())
-            }
+        self.forward(now, link, fired);
+        // Also while all that is in flight is abandoned: the forward point may be lost.
+        if self.sender.inflight_len() > 0 {
+            return self.timers.restart_if_stale(Timer::T3RTX, now, self.rto.get_rto());
         }
+        self.timers.stop(Timer::T3RTX);
+        Ok(())
     }
 
     /// Whether one more chunk may be out and unanswered. What waits to be sent again is taken as lost, and so is not out.
@@ -326,18 +326,19 @@ impl Host {
         }
     }
 
-    /// The forward point: what is abandoned at the front of the flight need not be waited for. It is told again until it is acknowledged.
-    fn forward(&mut self, now: u64, link: &mut Link) {
+    /// The forward point: what is abandoned at the front of the flight need not be waited for. It is told when it is a new one, and again each time
+    /// the timer fires.
+    fn forward(&mut self, now: u64, link: &mut Link, fired: bool) {
         let front: Vec<Chunk> = self.flight().take_while(|chunk| chunk.abandoned).collect();
         let Some(last) = front.last() else { return };
-        if self.forwarded.is_some_and(|(when, tsn)| tsn == last.tsn && now < when + 3 * SLOT) {
+        if self.forwarded == Some(last.tsn) && !fired {
             return;
         }
         let mut streams = BTreeMap::new();
         for chunk in front.iter().filter(|chunk| !chunk.unordered) {
             streams.insert(chunk.stream_identifier, chunk.stream_sequence_number);
         }
-        self.forwarded = Some((now, last.tsn));
+        self.forwarded = Some(last.tsn);
         self.forwards += 1;
         link.send(now, Packet::Forward { tsn: last.tsn, streams: streams.into_iter().collect() });
     }
