@@ -143,6 +143,8 @@ struct Chart<'a> {
     /// The last moment, and how many TSNs there are.
     time: f64,
     tsns: u32,
+    /// When the first and the last thing happened to each TSN.
+    spans: Vec<(u64, u64)>,
     /// The lower edge of the upper drawing, the upper edge of the lanes, and their lower edge.
     bottom: f64,
     lanes_top: f64,
@@ -157,7 +159,12 @@ impl<'a> Chart<'a> {
         let bottom = TOP + 16.0 + PITCH * f64::from(tsns);
         let lanes_top = bottom + 26.0 + 2.0 * STRIP;
         let time = (session.ended as f64 / 50.0).ceil() * 50.0;
-        let mut chart = Chart { session, time, tsns, bottom, lanes_top, floor: 0.0, lanes: Vec::new(), svg: String::new() };
+        let mut spans = vec![(u64::MAX, 0); tsns as usize];
+        for event in &session.host.events {
+            let (first, last) = &mut spans[event.at as usize];
+            (*first, *last) = ((*first).min(event.time), (*last).max(event.time));
+        }
+        let mut chart = Chart { session, time, tsns, spans, bottom, lanes_top, floor: 0.0, lanes: Vec::new(), svg: String::new() };
         chart.lanes = chart.laid_out();
         chart.floor = lanes_top + chart.lanes.iter().map(Lane::height).sum::<f64>();
         chart
@@ -278,12 +285,6 @@ impl<'a> Chart<'a> {
         }
     }
 
-    /// When the first and the last thing happened to a TSN.
-    fn span(&self, at: u32) -> (u64, u64) {
-        let of: Vec<u64> = self.session.host.events.iter().filter(|event| event.at == at).map(|event| event.time).collect();
-        (of.first().copied().unwrap_or(0), of.last().copied().unwrap_or(0))
-    }
-
     fn lives(&mut self) {
         let session = self.session;
         // A thread from the first sending of a TSN to its end; then the marks.
@@ -291,7 +292,7 @@ impl<'a> Chart<'a> {
             let look = look(message.stream);
             let mut threads = format!("<g stroke='{}' stroke-width='1.1' stroke-opacity='0.55' stroke-dasharray='{}'>\n", look.colour, look.dashes);
             for at in first..=last {
-                let (from, to) = self.span(at);
+                let (from, to) = self.spans[at as usize];
                 let y = self.y(at);
                 let _ = writeln!(threads, "<path d='M{:.1} {y:.1}H{:.1}'/>", self.x(from), self.x(to));
             }
@@ -315,7 +316,7 @@ impl<'a> Chart<'a> {
             above = y;
             // the lowest TSN beside the name
             let beside = ((self.bottom - 10.0 - y - 6.0) / PITCH).ceil().max(0.0) as u32;
-            let x = self.x(self.span(beside.min(first)).0) - 6.0;
+            let x = self.x(self.spans[beside.min(first) as usize].0) - 6.0;
             let look = look(message.stream);
             let label = format!("<tspan font-weight='bold'>{}{}</tspan>", look.letter, message.version);
             self.put(&text(x, y + 3.5, 10.0, look.colour, "end", &label));

@@ -246,27 +246,30 @@ fn main() -> Result<(), Box<dyn Error>> {
 mod tests {
     use super::*;
 
-    /// The picture that is committed is the one that this program draws, and has in it what a reader is told to look for.
+    /// The picture that is committed is the one that this program draws, and shows what README.md says of it.
     #[test]
     fn the_session_that_is_shown() {
         let mut session = run(SEED, LOSS).unwrap();
         check(&mut session);
-        let lost = session.host.events.iter().any(|event| event.lost);
-        let of = |test: &dyn Fn(&Message) -> bool| session.host.messages.values().any(test);
-        assert!(lost && of(&|message| matches!(message.end, End::Cut(_))) && of(&|message| message.end == End::Dropped));
-        assert!(of(&|message| message.end == End::GivenUp && session.handed(message).is_some()), "one arrived unheard");
+        let [t6, t7, t10, l1] = [(1, 6), (1, 7), (1, 10), (2, 1)].map(|(stream, version)| session.message(stream, version));
+        assert!(matches!(t6.end, End::Cut(_)) && (t6.sent, t6.fragments()) == (8, 9));
+        assert!(t7.end == End::Dropped && t7.first.is_none());
+        assert!(session.handed(t10).is_some());
+        assert!(l1.end == End::GivenUp && session.handed(l1).is_some_and(|handed| handed.at < l1.ended), "it arrived unheard");
+        let of_l1 = |event: &&host::Event| l1.first.is_some_and(|first| (first..first + l1.fragments() as u32).contains(&event.at));
+        assert_eq!(session.host.events.iter().filter(of_l1).filter(|event| event.lost).count(), 1);
         let committed = concat!(env!("CARGO_MANIFEST_DIR"), "/../docs/session.svg");
         let same = std::fs::read_to_string(committed).unwrap() == chart::draw(&session);
         assert!(same, "docs/session.svg is another: cargo run --example editor -- ../docs/session.svg");
     }
 
-    /// What is checked holds of any session, not of the one that is shown: thirty over the same link, sixty over a worse one. Together they meet
+    /// What is checked holds of any session, not of the one that is shown: thirty over the same link, thirty over a worse one. Together they meet
     /// all that can happen to a tree. `GIRDERMOTH_SHARE=10` runs a tenth of them, for the slow runs of host/check.
     #[test]
     fn other_sessions() {
         let share = std::env::var("GIRDERMOTH_SHARE").map_or(1, |share| share.parse().expect("GIRDERMOTH_SHARE is a number"));
         let (mut older, mut waited, mut ends) = (0, 0, [0; 4]);
-        for (sessions, loss) in [(30u64, LOSS), (60, 12)] {
+        for (sessions, loss) in [(30u64, LOSS), (30, 12)] {
             for seed in 0..sessions.div_ceil(share) {
                 let mut session = run(seed, loss).unwrap();
                 let counts = check(&mut session);
