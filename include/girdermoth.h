@@ -6,7 +6,6 @@
 // overlap in time; a lent list must not lie within the sender.
 //
 // A reply has a refusal: 0 is done, any other is one of the numbers below. A refused call changes nothing, and all else in its reply is 0.
-// (Of a sender that girdermoth_init did not make, a flag byte of the head may become 0 or 1, which means the same.)
 #ifndef GIRDERMOTH_H
 #define GIRDERMOTH_H
 

@@ -1,6 +1,7 @@
-//! The race of the archive with the unchanged Rust, in one process. `bench/run` builds and starts it.
+//! The race of the archive with the unchanged Rust and with the anchor in C, in one process. `bench/run` builds and starts it.
+mod calls;
 mod jobs;
-mod ours;
+mod lent;
 mod race;
 mod side;
 mod stopwatch;
@@ -14,10 +15,14 @@ mod theirs;
 use std::env;
 use std::process::exit;
 
-use jobs::{
-    AbandonHalfSent, AbandonSent, Alone, Call, Cycle, ExpirePending, ExpirePendingTail, Expired, Flight, Job,
-    NothingNew, StartLifetimes, TimerJob,
+use jobs::Job;
+use jobs::cycles::{Alone, Burst, Call, Cycle, CycleOnLast, CycleOnMany, Fragmented, Order};
+use jobs::expiries::{
+    AbandonHalfSent, AbandonSent, AllDue, ExpirePending, ExpirePendingTail, Expired, Flight, HostRound, NothingNew,
+    StartLifetimes, Traffic,
 };
+use jobs::questions::{Ask, MarkAll, Question};
+use jobs::timers::TimerJob;
 use race::{Plan, Row};
 use side::Bytes;
 
@@ -44,15 +49,34 @@ impl Task {
     }
 }
 
-fn take_all(task: &mut Task) {
+fn take_cycles(task: &mut Task) {
     for bytes in [Bytes::AsTheCallsAre, Bytes::BothCopy, Bytes::NeitherCopies] {
         [0, 10, 100, 250].into_iter().for_each(|flight| task.take(Cycle { bytes, flight }));
+    }
+    for bytes in [Bytes::AsTheCallsAre, Bytes::NeitherCopies] {
+        [2, 8, 64].into_iter().for_each(|streams| task.take(CycleOnLast { bytes, streams }));
+    }
+    for bytes in [Bytes::AsTheCallsAre, Bytes::NeitherCopies] {
+        task.take(CycleOnMany { bytes, senders: 1000 });
+    }
+    for bytes in [Bytes::AsTheCallsAre, Bytes::NeitherCopies] {
+        [4, 43].into_iter().for_each(|fragments| task.take(Fragmented { bytes, fragments }));
+    }
+    for order in [Order::OldestFirst, Order::Mixed] {
+        [10, 250].into_iter().for_each(|messages| task.take(Burst { messages, order }));
     }
     for call in Call::ALL {
         [0, 10, 100, 250].into_iter().for_each(|flight| task.take(Alone { call, flight }));
     }
+}
+
+fn take_expiries(task: &mut Task) {
+    for traffic in [Traffic::NothingToDo, Traffic::OneMessage] {
+        [10, 250].into_iter().for_each(|flight| task.take(HostRound { flight, traffic }));
+    }
     [20, 100, 200].into_iter().for_each(|fragments| task.take(AbandonHalfSent { fragments }));
     [10, 100, 250].into_iter().for_each(|flight| task.take(AbandonSent { flight }));
+    [10, 250].into_iter().for_each(|flight| task.take(AllDue { flight }));
     for state in [Flight::NoneDue, Flight::NoneAcknowledged, Flight::AllAcknowledged] {
         [10, 100, 250].into_iter().for_each(|flight| task.take(Expired { flight, state }));
     }
@@ -60,6 +84,16 @@ fn take_all(task: &mut Task) {
     [10, 100, 250].into_iter().for_each(|rest| task.take(ExpirePendingTail { rest }));
     [10, 100, 250].into_iter().for_each(|messages| task.take(StartLifetimes { messages }));
     task.take(NothingNew { messages: 250 });
+}
+
+fn take_questions(task: &mut Task) {
+    [10, 250].into_iter().for_each(|flight| task.take(MarkAll { flight }));
+    for question in Question::ALL {
+        [10, 250].into_iter().for_each(|messages| task.take(Ask { question, messages }));
+    }
+}
+
+fn take_timers(task: &mut Task) {
     for job in [TimerJob::Start, TimerJob::ExpiryAndBackOff, TimerJob::NextTimeout, TimerJob::Measure] {
         task.take(job);
     }
@@ -93,15 +127,15 @@ fn positive(word: &str) -> u64 {
 
 fn main() {
     let mut task = read_arguments();
-    take_all(&mut task);
+    [take_cycles, take_expiries, take_questions, take_timers].iter().for_each(|take| take(&mut task));
     if task.check {
-        println!("both sides answer the same");
+        println!("all sides answer the same");
         return;
     }
     let cost = stopwatch::reading_cost();
-    println!("Median of {} rounds, the two sides in turn (least..most).", task.plan.rounds);
+    println!("Median (and least) of {} rounds, the three sides in turn.", task.plan.rounds);
     println!("Reading the clock takes {cost:.1} ns, which is taken off every timed block.\n");
     table::costs(&task.rows);
-    println!("\nHow the cost grows from the first number to the last:\n");
+    println!("\nHow many times the least cost grows from the first number to the last:\n");
     table::growth(&task.rows);
 }

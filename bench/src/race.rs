@@ -1,8 +1,8 @@
-//! Both sides in turn, several rounds.
-use std::time::Instant;
+//! All sides in turn, several rounds.
+use std::time::{Duration, Instant};
 
 use crate::jobs::Job;
-use crate::ours::Ours;
+use crate::lent::{Anchored, Ours};
 use crate::stopwatch::Timed;
 use crate::theirs::Theirs;
 
@@ -12,72 +12,95 @@ pub struct Plan {
     pub milliseconds: u64,
 }
 
-/// The median of the rounds, and how far they spread.
+/// The median of the rounds, and the least, which is what other work on the machine disturbs least. Of a ratio: the median of the rounds' ratios,
+/// and the ratio of the two leasts.
 #[derive(Clone, Copy)]
-pub struct Spread {
+pub struct Figure {
     pub median: f64,
     pub least: f64,
-    pub most: f64,
 }
 
 pub struct Row {
     pub name: String,
     pub size: Option<usize>,
-    pub ours: Spread,
-    pub theirs: Spread,
-    /// Theirs by ours, round by round.
-    pub ratio: Spread,
+    pub ours: Figure,
+    pub anchor: Figure,
+    pub theirs: Figure,
+    pub theirs_by_ours: Figure,
+    pub ours_by_anchor: Figure,
 }
 
-fn spread(mut values: Vec<f64>) -> Spread {
+const OURS: usize = 0;
+const ANCHOR: usize = 1;
+const THEIRS: usize = 2;
+const SIDES: usize = 3;
+/// One run of each side, in this order.
+type Round = [Timed; SIDES];
+
+fn median(mut values: Vec<f64>) -> f64 {
     values.sort_by(f64::total_cmp);
     let middle = values.len() / 2;
-    let median = if values.len() % 2 == 1 { values[middle] } else { (values[middle - 1] + values[middle]) / 2.0 };
-    Spread { median, least: values[0], most: values[values.len() - 1] }
+    if values.len() % 2 == 1 { values[middle] } else { (values[middle - 1] + values[middle]) / 2.0 }
 }
 
-/// One run of each side, which must answer the same.
-fn round<J: Job>(job: &J, ours_first: bool, repetitions: usize) -> (Timed, Timed) {
-    let (ours, theirs);
-    if ours_first {
-        ours = job.run::<Ours>(repetitions);
-        theirs = job.run::<Theirs>(repetitions);
-    } else {
-        theirs = job.run::<Theirs>(repetitions);
-        ours = job.run::<Ours>(repetitions);
+fn figure(rounds: &[Round], side: usize) -> Figure {
+    let nanos = || rounds.iter().map(|round| round[side].nanos);
+    Figure { median: median(nanos().collect()), least: nanos().fold(f64::INFINITY, f64::min) }
+}
+
+fn ratio(rounds: &[Round], side: usize, by: usize) -> Figure {
+    let median = median(rounds.iter().map(|round| round[side].nanos / round[by].nanos).collect());
+    Figure { median, least: figure(rounds, side).least / figure(rounds, by).least }
+}
+
+/// One run of each side, from `first` on; all must answer the same.
+fn round<J: Job>(job: &J, first: usize, repetitions: usize) -> Round {
+    let mut round = Round::default();
+    for side in (first..first + SIDES).map(|side| side % SIDES) {
+        round[side] = match side {
+            OURS => job.run::<Ours>(repetitions),
+            ANCHOR => job.run::<Anchored>(repetitions),
+            _ => job.run::<Theirs>(repetitions),
+        };
     }
-    assert_eq!(ours.answers, theirs.answers, "{}, {:?}: the sides answer differently", job.name(), job.size());
-    (ours, theirs)
+    for (side, name) in [(ANCHOR, "the anchor"), (THEIRS, "the Rust")] {
+        let (ours, other) = (round[OURS].answers, round[side].answers);
+        assert_eq!(ours, other, "{}, {:?}: ours and {name} answer differently", job.name(), job.size());
+    }
+    round
 }
 
-/// How many repetitions let the slower side run for about so long, what prepares them counted in.
+/// How many repetitions let a round of all sides take about so long, what prepares them counted in. A round may take long because other work has
+/// interrupted it, so three must.
 fn repetitions<J: Job>(job: &J, milliseconds: u64) -> usize {
-    let mut count = 8;
-    loop {
+    let enough = Duration::from_millis(milliseconds);
+    let is_short = |count| {
         let start = Instant::now();
-        round(job, true, count);
-        let passed = start.elapsed().as_nanos() as u64;
-        if passed >= milliseconds * 1_000_000 || count >= 1 << 22 {
-            return count;
-        }
+        round(job, OURS, count);
+        start.elapsed() < enough
+    };
+    let mut count = 1;
+    while count < 1 << 22 && (0..3).any(|_| is_short(count)) {
         count *= 2;
     }
+    count
 }
 
-/// Only that both sides answer the same.
+/// Only that all sides answer the same.
 pub fn check<J: Job>(job: &J) {
-    round(job, true, 300);
+    round(job, OURS, 300);
 }
 
 pub fn race<J: Job>(job: &J, plan: &Plan) -> Row {
     let repetitions = repetitions(job, plan.milliseconds);
-    let rounds: Vec<(Timed, Timed)> = (0..plan.rounds).map(|i| round(job, i % 2 == 0, repetitions)).collect();
-    let of = |value: fn(&(Timed, Timed)) -> f64| spread(rounds.iter().map(value).collect());
+    let rounds: Vec<Round> = (0..plan.rounds).map(|i| round(job, i, repetitions)).collect();
     Row {
         name: job.name(),
         size: job.size(),
-        ours: of(|(ours, _)| ours.nanos),
-        theirs: of(|(_, theirs)| theirs.nanos),
-        ratio: of(|(ours, theirs)| theirs.nanos / ours.nanos),
+        ours: figure(&rounds, OURS),
+        anchor: figure(&rounds, ANCHOR),
+        theirs: figure(&rounds, THEIRS),
+        theirs_by_ours: ratio(&rounds, THEIRS, OURS),
+        ours_by_anchor: ratio(&rounds, OURS, ANCHOR),
     }
 }

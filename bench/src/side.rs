@@ -1,4 +1,4 @@
-//! One set of calls for both sides. A fresh sender has two streams, 1 and 2, ordered, and the first TSN is 4,294,967,000, so that TSNs wrap.
+//! One set of calls for all sides. A fresh sender has two streams, 1 and 2, ordered, and the first TSN is 4,294,967,000, so that TSNs wrap.
 
 /// What is told of a chunk.
 #[derive(Clone, Copy, Debug, PartialEq, Eq)]
@@ -20,9 +20,9 @@ pub struct Freed {
 /// What becomes of a message's bytes at a write.
 #[derive(Clone, Copy, PartialEq, Eq)]
 pub enum Bytes {
-    /// As the calls are: the Rust copies, ours leaves the bytes with the host.
+    /// As the calls are: the Rust copies, ours and the anchor leave the bytes with the host.
     AsTheCallsAre,
-    /// The host of ours copies them to its own store as well.
+    /// The host of ours and of the anchor copies them to its own store as well.
     BothCopy,
     /// The Rust is handed a shared buffer.
     NeitherCopies,
@@ -36,6 +36,8 @@ pub trait Side {
 
     /// `lifetime` in milliseconds; 0 is reliable.
     fn fresh(payload: u32, lifetime: u32) -> Self;
+    /// One more stream.
+    fn open(&mut self, stream: u16, payload: u32, lifetime: u32);
     fn time(&self, milliseconds: u64) -> Self::Time;
     fn write(&mut self, bytes: Bytes, stream: u16, length: usize);
     fn send(&mut self, now: Self::Time) -> Option<Chunk>;
@@ -45,10 +47,18 @@ pub trait Side {
     fn abandon(&mut self, tsn: u32) -> Option<Freed>;
     /// How many; the list itself is made as well.
     fn expired(&mut self, now: Self::Time) -> usize;
-    fn expired_list(&mut self, now: Self::Time) -> Vec<u32>;
+    /// A TSN of the list that was made last.
+    fn listed(&self, i: usize) -> u32;
     fn expire_pending(&mut self, now: Self::Time) -> Option<Freed>;
     fn expire_pending_tail(&mut self, now: Self::Time) -> Option<Freed>;
     fn start_lifetimes(&mut self, now: Self::Time);
+    fn mark_all(&mut self);
+    /// Whether the entry is to be retransmitted.
+    fn is_marked(&self, tsn: u32) -> bool;
+    fn get(&self, tsn: u32) -> Option<Chunk>;
+    fn pending_contains_stream(&self, stream: u16) -> bool;
+    fn contains_stream(&self, stream: u16) -> bool;
+    fn earliest_outstanding(&self) -> Option<u32>;
     fn in_flight(&self) -> usize;
     fn pending(&self) -> usize;
 }

@@ -5,7 +5,7 @@ use std::time::{Duration, Instant};
 
 use crate::side::{Chunk, Freed};
 
-/// The answers of a run in their order, as one number: both sides must come to the same.
+/// The answers of a run in their order, as one number: all sides must come to the same.
 #[derive(Default)]
 pub struct Answers(u64);
 
@@ -25,13 +25,10 @@ impl Answers {
         let freed = freed.expect("something is freed");
         self.number(freed.bytes ^ u64::from(freed.stream) << 48);
     }
-    pub fn list(&mut self, list: &[u32]) {
-        self.number(list.len() as u64);
-        list.iter().for_each(|tsn| self.number(u64::from(*tsn)));
-    }
 }
 
 /// What a run took, and what it answered.
+#[derive(Clone, Copy, Default)]
 pub struct Timed {
     /// Nanoseconds a call.
     pub nanos: f64,

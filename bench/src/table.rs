@@ -1,5 +1,5 @@
 //! The tables, in Markdown.
-use crate::race::{Row, Spread};
+use crate::race::{Figure, Row};
 
 fn number(value: f64) -> String {
     if value < 10.0 {
@@ -19,8 +19,8 @@ fn number(value: f64) -> String {
     grouped
 }
 
-fn spread(spread: Spread) -> String {
-    format!("{} ({}..{})", number(spread.median), number(spread.least), number(spread.most))
+fn figure(figure: Figure) -> String {
+    format!("{} ({})", number(figure.median), number(figure.least))
 }
 
 fn size(size: Option<usize>) -> String {
@@ -28,11 +28,11 @@ fn size(size: Option<usize>) -> String {
 }
 
 pub fn costs(rows: &[Row]) {
-    println!("| case | number | ours, ns | Rust, ns | Rust by ours |");
-    println!("|---|---:|---:|---:|---:|");
+    println!("| case | number | ours, ns | C, ns | Rust, ns | Rust by ours | ours by C |");
+    println!("|---|---:|---:|---:|---:|---:|---:|");
     for row in rows {
-        let (ours, theirs, ratio) = (spread(row.ours), spread(row.theirs), spread(row.ratio));
-        println!("| {} | {} | {ours} | {theirs} | {ratio} |", row.name, size(row.size));
+        let figures = [row.ours, row.anchor, row.theirs, row.theirs_by_ours, row.ours_by_anchor].map(figure);
+        println!("| {} | {} | {} |", row.name, size(row.size), figures.join(" | "));
     }
 }
 
@@ -41,23 +41,18 @@ fn families(rows: &[Row]) -> Vec<&[Row]> {
     rows.chunk_by(|a, b| a.name == b.name).filter(|family| family.len() > 1).collect()
 }
 
-fn listed(family: &[Row], value: fn(&Row) -> String) -> String {
-    family.iter().map(value).collect::<Vec<_>>().join(" / ")
+/// How much more the last row of a family costs than the first, on one side.
+fn growth_of(family: &[Row], side: fn(&Row) -> Figure) -> String {
+    number(side(&family[family.len() - 1]).least / side(&family[0]).least)
 }
 
 pub fn growth(rows: &[Row]) {
-    println!("| case | numbers | ours, ns | grows by | Rust, ns | grows by |");
-    println!("|---|---|---|---:|---|---:|");
+    println!("| case | numbers | ours | C | Rust |");
+    println!("|---|---|---:|---:|---:|");
     for family in families(rows) {
-        let (first, last) = (&family[0], &family[family.len() - 1]);
-        println!(
-            "| {} | {} | {} | {} | {} | {} |",
-            first.name,
-            listed(family, |row| size(row.size)),
-            listed(family, |row| number(row.ours.median)),
-            number(last.ours.median / first.ours.median),
-            listed(family, |row| number(row.theirs.median)),
-            number(last.theirs.median / first.theirs.median),
-        );
+        let sizes: Vec<String> = family.iter().map(|row| size(row.size)).collect();
+        let grown = [|row: &Row| row.ours, |row: &Row| row.anchor, |row: &Row| row.theirs];
+        let grown = grown.map(|side| growth_of(family, side));
+        println!("| {} | {} | {} |", family[0].name, sizes.join(" / "), grown.join(" | "));
     }
 }

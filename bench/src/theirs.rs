@@ -9,6 +9,7 @@ use crate::side::{Bytes, Chunk, Clockwork, Freed, Side};
 pub struct Theirs {
     sender: BareSender,
     shared: bytes::Bytes,
+    list: Vec<u32>,
 }
 
 fn freed(stream: u16, bytes: usize) -> Freed {
@@ -27,7 +28,10 @@ impl Side for Theirs {
     type Timers = TheirTimers;
 
     fn fresh(payload: u32, lifetime: u32) -> Self {
-        Theirs { sender: Oracle::bench_sender(payload, lifetime), shared: bytes::Bytes::new() }
+        Theirs { sender: Oracle::bench_sender(payload, lifetime), shared: bytes::Bytes::new(), list: Vec::new() }
+    }
+    fn open(&mut self, stream: u16, payload: u32, lifetime: u32) {
+        self.sender.open(stream, payload, lifetime);
     }
     fn time(&self, milliseconds: u64) -> Instant {
         self.sender.now(milliseconds)
@@ -58,10 +62,11 @@ impl Side for Theirs {
         self.sender.abandon(tsn).map(|(stream, bytes)| freed(stream, bytes))
     }
     fn expired(&mut self, now: Instant) -> usize {
-        black_box(self.sender.expired(now)).len()
+        self.list = black_box(self.sender.expired(now));
+        self.list.len()
     }
-    fn expired_list(&mut self, now: Instant) -> Vec<u32> {
-        self.sender.expired(now)
+    fn listed(&self, i: usize) -> u32 {
+        self.list[i]
     }
     fn expire_pending(&mut self, now: Instant) -> Option<Freed> {
         self.sender.expire_pending(now).map(|(stream, _, bytes)| freed(stream, bytes))
@@ -71,6 +76,24 @@ impl Side for Theirs {
     }
     fn start_lifetimes(&mut self, now: Instant) {
         self.sender.lifetimes(now);
+    }
+    fn mark_all(&mut self) {
+        self.sender.mark_all();
+    }
+    fn is_marked(&self, tsn: u32) -> bool {
+        self.sender.is_marked(tsn)
+    }
+    fn get(&self, tsn: u32) -> Option<Chunk> {
+        chunk!(self.sender.get(tsn))
+    }
+    fn pending_contains_stream(&self, stream: u16) -> bool {
+        self.sender.has_pending(stream)
+    }
+    fn contains_stream(&self, stream: u16) -> bool {
+        self.sender.has(stream)
+    }
+    fn earliest_outstanding(&self) -> Option<u32> {
+        self.sender.earliest()
     }
     fn in_flight(&self) -> usize {
         self.sender.flight()

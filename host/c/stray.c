@@ -1,5 +1,5 @@
 // Nothing strays. Each call on senders of random bytes, on a heap block of the exact size (for ASan and valgrind) and between canaries: it
-// returns, both give the same reply and the same bytes, and a question writes nothing. Then runs of random calls from a fresh sender, on two
+// returns, both give the same reply and the same bytes, and a question or a refusal writes nothing. Then runs of random calls from a fresh sender, on two
 // whose cells held different bytes: all replies are equal, and a refused call changes no byte.
 #include "girdermoth.h"
 #include <stdio.h>
@@ -55,7 +55,7 @@ int main(int argc, char **argv) {
         want(same_head(&s->head, &g->s.head) && memcmp(s->cells, g->s.cells, sizeof s->cells) == 0, "two senders", call);
         want(memcmp(l, m, x.room * 4) == 0, "two lists", call);
         if (asks(call) || call == CALL_expired_inflight) want(memcmp(s, was, sizeof *s) == 0, "a question wrote", call);
-        if (r.part[0]) { for (size_t i = 0; i < x.room; i++) want(l[i] == 7, "a refusal wrote to the list", call); want(memcmp(s->cells, was->cells, sizeof s->cells) == 0, "a refusal wrote", call); }
+        if (r.part[0]) { for (size_t i = 0; i < x.room; i++) want(l[i] == 7, "a refusal wrote to the list", call); want(same_head(&s->head, &was->head) && memcmp(s->cells, was->cells, sizeof s->cells) == 0, "a refusal wrote", call); }
         for (int i = 0; i < 8; i++) want(g->front[i] == 0xA5A5A5A5A5A5A5A5u && g->back[i] == 0xA5A5A5A5A5A5A5A5u, "a canary", call);
         free(l); free(m);
     }

@@ -59,7 +59,7 @@ fn any_bytes_are_a_sender() {
                 assert!(one.lent == start.lent, "the question {name} changes the sender");
             } else if told[0] > 0 {
                 assert!(told[0] <= 12 && told[1..].iter().all(|number| *number == 0), "{name} answers {told:?}");
-                assert!(one.lent.means_the_same(&start.lent), "{name} is refused and changes the sender");
+                assert!(one.lent == start.lent, "{name} is refused and changes the sender");
                 refused += 1;
             }
         }

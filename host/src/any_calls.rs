@@ -141,12 +141,6 @@ impl Sender {
     pub(crate) fn of(word: &mut impl FnMut() -> u64) -> Self {
         Self { head: Head::of(word), cells: std::array::from_fn(|_| word()) }
     }
-    /// A byte of the head is a flag, and any but 0 is yes.
-    pub(crate) fn means_the_same(&self, other: &Sender) -> bool {
-        let plain = |byte: u8| u8::from(byte != 0);
-        let head = |head: Head| Head { selected: plain(head.selected), unordered_is_selected: plain(head.unordered_is_selected), ..head };
-        self.cells == other.cells && head(self.head) == head(other.head)
-    }
 }
 
 impl Rto {

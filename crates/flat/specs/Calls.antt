@@ -6,6 +6,7 @@ use Rattle.limits.specs.Limits.{Room}
 use Rattle.limits.specs.Refusals.{done}
 use Rattle.model.specs.State.{Sender, Out, same}
 use Rattle.model.specs.Calls.{told}
+use Rattle.rows.specs.Spared.{Spares}
 use Rattle.outbound_queue.specs.Outbound.{Does}
 use Rattle.sender_head.specs.declared.Head.{Head}
 use Rattle.sender_head.specs.Whole.{senderOf, Counted}
@@ -26,6 +27,13 @@ Goes f call h ws h′ ws′ y = (record { after = senderOf h′ ws′; says = y 
 abbrev pub Leans : {A B : Type 0} → (A → B) → Room → (lean call : Sender → Out A) → Head → List ℕ → Head → List ℕ → B → Type 0
 Leans f room lean call h ws h′ ws′ y =
     Does room (senderOf h ws) (record { after = senderOf h′ ws′; says = y }) (told f (lean (senderOf h ws))) (told f (call (senderOf h ws))) × (Counted h ws → Counted h′ ws′)
+
+-- and of a call that can be refused: `number` is 01's in the reply. A refusal leaves the head and every word
+abbrev pub GoesOrStays : {A B : Type 0} → (number : B → ℕ) → (A → B) → (Sender → Out A) → Head → List ℕ → Head → List ℕ → B → Type 0
+GoesOrStays number f call h ws h′ ws′ y = Goes f call h ws h′ ws′ y × Spares (number y) h ws h′ ws′
+
+abbrev pub LeansOrStays : {A B : Type 0} → (number : B → ℕ) → (A → B) → Room → (lean call : Sender → Out A) → Head → List ℕ → Head → List ℕ → B → Type 0
+LeansOrStays number f room lean call h ws h′ ws′ y = Leans f room lean call h ws h′ ws′ y × Spares (number y) h ws h′ ws′
 
 -- a call of the model that answers nothing: it is done
 abbrev pub doing : (Sender → Sender) → Sender → Out ℕ
@@ -50,6 +58,17 @@ module _ {A B : Type 0} (f : A → B) {x : A} {y : B} (reply : y ≡ f x) where
 
   pub leans : {K : Type 0} {room : Room} {t s : Sender} {l o : Out A} → Does room t (same x s) l o × K → Does room t (same y s) (told f l) (told f o) × K
   leans d = ((flatly (d .0 .0), λ good. flatly (d .0 .1 good)), d .1)
+
+  -- S is what a refusal leaves
+  spares : {S : Type 0} (number : B → ℕ) → ((number (f x) ≡ done → ⊥) → S) → (number y ≡ done → ⊥) → S
+  spares number d refused = d (λ e. refused (ap number reply ∙ e))
+
+  pub goes-or-stays : {K S : Type 0} {s : Sender} {o : Out A} (number : B → ℕ) → ((same x s ≡ o) × K) × ((number (f x) ≡ done → ⊥) → S) → ((same y s ≡ told f o) × K) × ((number y ≡ done → ⊥) → S)
+  goes-or-stays number d = (goes (d .0), spares number (d .1))
+
+  pub leans-or-stays : {K S : Type 0} {room : Room} {t s : Sender} {l o : Out A} (number : B → ℕ)
+      → (Does room t (same x s) l o × K) × ((number (f x) ≡ done → ⊥) → S) → (Does room t (same y s) (told f l) (told f o) × K) × ((number y ≡ done → ⊥) → S)
+  leans-or-stays number d = (leans (d .0), spares number (d .1))
 
   pub asks : {z : A} → x ≡ z → y ≡ f z
   asks e = reply ∙ ap f e

@@ -24,6 +24,17 @@ use Rattle.flat.specs.declared.Freed.{Freed}
 use Rattle.flat.specs.declared.Fragment.{Fragment}
 use Rattle.flat.specs.declared.Counts.{Counts}
 
+-- ---- 01's number in a reply: the only thing in a refusal
+
+abbrev pub refusalOfReply : Reply → ℕ
+refusalOfReply y = y .refusal
+
+abbrev pub refusalOfFreed : Freed → ℕ
+refusalOfFreed y = y .refusal
+
+abbrev pub refusalOfFragment : Fragment → ℕ
+refusalOfFragment y = y .refusal
+
 -- ---- numbers, yes and no
 
 -- 01's number, and yes or no

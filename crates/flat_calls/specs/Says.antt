@@ -10,8 +10,8 @@ use Rattle.flat.specs.declared.Reply.{Reply}
 use Rattle.flat.specs.declared.Freed.{Freed}
 use Rattle.flat.specs.declared.Fragment.{Fragment}
 use Rattle.flat.specs.declared.Counts.{Counts}
-use Rattle.flat.specs.Replies.{flatAbandoned, flatAmount, flatCounted, flatDone, flatEarliest, flatExpired, flatFound, flatReleased, flatSent, flatTail, flatWritten, numberIs, onlyNumber, yesOrNo}
-use Rattle.flat.specs.Calls.{Makes, Goes, Leans, doing, Asks, Sums}
+use Rattle.flat.specs.Replies.{flatAbandoned, flatAmount, flatCounted, flatDone, flatEarliest, flatExpired, flatFound, flatReleased, flatSent, flatTail, flatWritten, numberIs, onlyNumber, refusalOfFragment, refusalOfFreed, refusalOfReply, yesOrNo}
+use Rattle.flat.specs.Calls.{Makes, Goes, Leans, GoesOrStays, LeansOrStays, doing, Asks, Sums}
 use Rattle.flat_calls.specs.Listing.{Lists}
 use mathlib.Core.List.{_++_}
 use Prim.Native.Nat.{_+_}
@@ -34,45 +34,45 @@ Init tsn number = Makes (fresh tsn number)
 
 -- A new stream: ordered, Reliable, and never high. Refusals: 2, 4, 5.
 abbrev pub OpenStream : Room → (identifier maximum : ℕ) → Head → List ℕ → Head → List ℕ → Reply → Type 0
-OpenStream room identifier maximum = Goes flatDone (openStream room identifier maximum)
+OpenStream room identifier maximum = GoesOrStays refusalOfReply flatDone (openStream room identifier maximum)
 
 -- How messages that are written from now on are delivered. Refusal: 3.
 abbrev pub SetReliability : (identifier : ℕ) → (unordered : Bool) → (kind value : ℕ) → Head → List ℕ → Head → List ℕ → Reply → Type 0
-SetReliability identifier unordered kind value = Goes flatDone (setReliability identifier unordered kind value)
+SetReliability identifier unordered kind value = GoesOrStays refusalOfReply flatDone (setReliability identifier unordered kind value)
 
 -- A release that brings the buffered amount from above this to it or below is answered yes. Refusal: 3.
 abbrev pub SetLowThreshold : (identifier low : ℕ) → Head → List ℕ → Head → List ℕ → Reply → Type 0
-SetLowThreshold identifier low = Goes flatDone (setLow identifier low)
+SetLowThreshold identifier low = GoesOrStays refusalOfReply flatDone (setLow identifier low)
 
 -- A message that brings the buffered amount from below this to it or above is answered yes. Refusal: 3.
 abbrev pub SetHighThreshold : (identifier high : ℕ) → Head → List ℕ → Head → List ℕ → Reply → Type 0
-SetHighThreshold identifier high = Goes flatDone (setHigh identifier high)
+SetHighThreshold identifier high = GoesOrStays refusalOfReply flatDone (setHigh identifier high)
 
 -- Bytes of a stream have left the sender; `yes` where the amount fell to the low threshold. Refusal: 3.
 abbrev pub Release : (identifier : ℕ) → (released : ℤ) → Head → List ℕ → Head → List ℕ → Reply → Type 0
-Release identifier released = Goes flatReleased (release identifier released)
+Release identifier released = GoesOrStays refusalOfReply flatReleased (release identifier released)
 
 -- ---- messages
 
 -- The caller keeps the bytes: a message is where they begin and how many they are. `yes` where the amount reached the high threshold. Refusals: 3, 6, 1, 7, 8, 9.
 abbrev pub Write : Room → (identifier protocol offset length : ℕ) → Head → List ℕ → Head → List ℕ → Reply → Type 0
-Write room identifier protocol offset length = Goes flatWritten (write room identifier protocol offset length)
+Write room identifier protocol offset length = GoesOrStays refusalOfReply flatWritten (write room identifier protocol offset length)
 
 -- Starts the lifetimes of the messages not yet seen. Refusal: 1.
 abbrev pub StartLifetimes : Room → (clock : ℕ) → Head → List ℕ → Head → List ℕ → Reply → Type 0
-StartLifetimes room clock = Leans flatDone room (leanStart clock) (startLifetimes clock)
+StartLifetimes room clock = LeansOrStays refusalOfReply flatDone room (leanStart clock) (startLifetimes clock)
 
 -- The next chunk goes to the flight. Refusals: 1; 10 where a chunk is pending.
 abbrev pub Send : Room → (clock : ℕ) → Head → List ℕ → Head → List ℕ → Fragment → Type 0
-Send room clock = Leans flatSent room (leanSend room clock) (send room clock)
+Send room clock = LeansOrStays refusalOfFragment flatSent room (leanSend room clock) (send room clock)
 
 -- The message at the head goes if it is due, and takes no TSN. Refusal: 1.
 abbrev pub ExpirePending : Room → (clock : ℕ) → Head → List ℕ → Head → List ℕ → Freed → Type 0
-ExpirePending room clock = Leans flatExpired room (leanExpire clock) (expirePending clock)
+ExpirePending room clock = LeansOrStays refusalOfFreed flatExpired room (leanExpire clock) (expirePending clock)
 
 -- Abandons the message under way, if its rest has expired. Refusal: 1.
 abbrev pub ExpirePendingTail : Room → (clock : ℕ) → Head → List ℕ → Head → List ℕ → Freed → Type 0
-ExpirePendingTail room clock = Leans flatTail room (leanExpireTail room clock) (expirePendingTail clock)
+ExpirePendingTail room clock = LeansOrStays refusalOfFreed flatTail room (leanExpireTail room clock) (expirePendingTail clock)
 
 -- Abandons the message of a TSN in flight.
 abbrev pub Abandon : Room → (tsn : ℕ) → Head → List ℕ → Head → List ℕ → Freed → Type 0

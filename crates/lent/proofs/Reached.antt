@@ -17,6 +17,6 @@ pub yields-below-255 : YieldsBelow255
 yields-below-255 tsn number h ks s s′ r clock c p f y d =
     let m = lent-runs tsn number h ks s r in
     let z = m .demand3 .yield clock c p (omega (arith, f)) in
-    let said : y ≡ flatSent (send room01 clock (stateOf s) .says) = ap (λ (o : Out Fragment). o .says) (d .0 .1 (m .good)) in
+    let said : y ≡ flatSent (send room01 clock (stateOf s) .says) = ap (λ (o : Out Fragment). o .says) (d .0 .0 .1 (m .good)) in
     let e = said ∙ ap flatSent (z .2) in
     (ap (λ (x : Fragment). x .some) e, ap (λ (x : Fragment). x .tsn) e, (z .0, z .1, e))

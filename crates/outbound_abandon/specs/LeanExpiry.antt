@@ -13,7 +13,9 @@ use Rattle.model.specs.declared.TailExpired.{TailExpired}
 use Rattle.model.specs.Lists.{if_then_else_}
 use Rattle.model.specs.State.{Sender, Out, same, withPending}
 use Rattle.model.specs.Streams.{find}
+use Rattle.model.specs.Told.{toldExpired}
 use Rattle.model.specs.Rings.{head, dropSsn, compacted, bytes, expires, tailExpires, expirePending}
+use Rattle.rows.specs.Spared.{Spares}
 use Rattle.pending_queue.specs.Runs.{runs, withoutRuns}
 use Rattle.outbound_queue.specs.declared.OutboundQueue.{OutboundQueue}
 use Rattle.outbound_queue.specs.Outbound.{senderOf, Counted, Does}
@@ -46,6 +48,10 @@ abbrev pub ExpiresHead : (now : ℕ) → OutboundQueue → List ℕ → Outbound
 ExpiresHead now q ws q′ ws′ answer =
     ((room : Room) (ts : List Stream) → Does room (senderOf ts q ws) (record { after = senderOf (dropped answer ts) q′ ws′; says = answer }) (leanExpire now (senderOf ts q ws)) (expirePending now (senderOf ts q ws)))
     × (Counted q ws → Counted q′ ws′)
+
+-- and a refusal leaves the queue and every word
+abbrev pub ExpiresHeadOrStays : (now : ℕ) → OutboundQueue → List ℕ → OutboundQueue → List ℕ → Expired → Type 0
+ExpiresHeadOrStays now q ws q′ ws′ answer = ExpiresHead now q ws q′ ws′ answer × Spares (toldExpired answer .number) q ws q′ ws′
 
 -- ---- the rest of a message that was sent in part expires
 

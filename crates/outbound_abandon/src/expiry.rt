@@ -8,8 +8,9 @@ use model::TailExpired;
 use outbound_queue::OutboundQueue;
 ghost use mathlib.Core.Path.{_≡_};
 ghost use Rattle.model.specs.Rings.{overdue, expires, tailExpires, expirePendingTail};
-ghost use Rattle.outbound_abandon.specs.LeanExpiry.{ExpiresHead, leanExpireTail};
-ghost use Rattle.outbound_queue.specs.Calls.{LeansIn};
+ghost use Rattle.model.specs.Told.{toldTail};
+ghost use Rattle.outbound_abandon.specs.LeanExpiry.{ExpiresHeadOrStays, leanExpireTail};
+ghost use Rattle.outbound_queue.specs.Calls.{LeansInOrStays};
 
 pub struct Expiring {
     pub queue: OutboundQueue,
@@ -49,7 +50,7 @@ fn is_expired(chunk: Chunk, clock: u64) -> bool
 // A wholly unsent message at the head goes, and takes no TSN; behind an ordered one the SSNs of its stream close the gap. The stream's own
 // next SSN is the caller's to lower (`dropped`).
 pub fn expire_pending(q: OutboundQueue, cells: &mut [u64], clock: u64) -> Expiring
-    ensures { λ r. ⌜ ExpiresHead clock q (now (cells .entry)) (r .queue) (now (cells .exit)) (r .answer) ⌝ }
+    ensures { λ r. ⌜ ExpiresHeadOrStays clock q (now (cells .entry)) (r .queue) (now (cells .exit)) (r .answer) ⌝ }
 {
     if limits::CLOCK_MAX < clock {
         return Expiring {
@@ -103,7 +104,7 @@ fn tail_is_expired(chunk: Chunk, clock: u64) -> bool
 
 // Gives up the message under way, if its rest has expired.
 pub fn expire_pending_tail(q: OutboundQueue, cells: &mut [u64], clock: u64) -> TailExpiring
-    ensures { λ r. ⌜ LeansIn (λ room. leanExpireTail room clock) (λ room. expirePendingTail clock) q (now (cells .entry)) (r .queue) (now (cells .exit)) (r .answer) ⌝ }
+    ensures { λ r. ⌜ LeansInOrStays toldTail (λ room. leanExpireTail room clock) (λ room. expirePendingTail clock) q (now (cells .entry)) (r .queue) (now (cells .exit)) (r .answer) ⌝ }
 {
     if limits::CLOCK_MAX < clock {
         return TailExpiring {

@@ -6,6 +6,7 @@ use mathlib.Core.List.{List, _++_, map}
 use Prim.Native.Nat.{ℕ, _+_}
 use lib.ListN.{length}
 use Rattle.limits.specs.Limits.{Room}
+use Rattle.limits.specs.Told.{Told}
 use Rattle.model.specs.declared.Chunk.{Chunk}
 use Rattle.model.specs.declared.Found.{Found}
 use Rattle.model.specs.declared.Lane.the-variants.{Ordered}
@@ -15,6 +16,7 @@ use Rattle.model.specs.Lists.{keep, last}
 use Rattle.model.specs.State.{Sender, Pending, Flight, Out, isOf, withPending, withRing}
 use Rattle.model.specs.Rings.{head, lowered, bytes, givenUp}
 use Rattle.model.specs.Flight.{found}
+use Rattle.rows.specs.Spared.{Spares}
 use Rattle.payload_queue.specs.Queue.{changed, filed}
 use Rattle.payload_queue.specs.Model.{withFlight}
 use Rattle.pending_queue.specs.Fragments.{fitsIn, withFragments}
@@ -65,6 +67,17 @@ abbrev pub LeansIn : {A : Type 0} → (lean call : Room → Sender → Out A) �
 LeansIn lean call q ws q′ ws′ answer =
     ((room : Room) (ts : List Stream) → room .flight ≡ ringRoom ws → Does room (senderOf ts q ws) (record { after = senderOf ts q′ ws′; says = answer }) (lean room (senderOf ts q ws)) (call room (senderOf ts q ws)))
     × (Counted q ws → Counted q′ ws′)
+
+-- ---- a call that can be refused: `told` says what its answer tells. Beside the promise above, a refusal leaves the queue and every word
+
+abbrev pub GoesOrStays : {A : Type 0} → (told : A → Told) → (Sender → Out A) → OutboundQueue → List ℕ → OutboundQueue → List ℕ → A → Type 0
+GoesOrStays told call q ws q′ ws′ answer = Goes call q ws q′ ws′ answer × Spares (told answer .number) q ws q′ ws′
+
+abbrev pub LeansOrStays : {A : Type 0} → (told : A → Told) → (lean call : Sender → Out A) → OutboundQueue → List ℕ → OutboundQueue → List ℕ → A → Type 0
+LeansOrStays told lean call q ws q′ ws′ answer = Leans lean call q ws q′ ws′ answer × Spares (told answer .number) q ws q′ ws′
+
+abbrev pub LeansInOrStays : {A : Type 0} → (told : A → Told) → (lean call : Room → Sender → Out A) → OutboundQueue → List ℕ → OutboundQueue → List ℕ → A → Type 0
+LeansInOrStays told lean call q ws q′ ws′ answer = LeansIn lean call q ws q′ ws′ answer × Spares (told answer .number) q ws q′ ws′
 
 -- ---- a step of a call
 

@@ -11,10 +11,11 @@ use model::Sent;
 use outbound_queue::OutboundQueue;
 ghost use mathlib.Core.Path.{_≡_};
 ghost use Rattle.model.specs.Rings.{head, startLifetimes, sentAt, send};
+ghost use Rattle.model.specs.Told.{toldDone, toldSent};
 ghost use Rattle.outbound_queue.specs.Outbound.{ringRoom};
 ghost use Rattle.outbound_send.specs.Lean.{leanStart, leanSend};
 ghost use Rattle.outbound_send.specs.Sends.{blocked};
-ghost use Rattle.outbound_queue.specs.Calls.{waitingIn, flyingIn, Leans, LeansIn};
+ghost use Rattle.outbound_queue.specs.Calls.{waitingIn, flyingIn, LeansOrStays, LeansInOrStays};
 
 pub struct Started {
     pub queue: OutboundQueue,
@@ -28,7 +29,7 @@ pub struct Sending {
 
 // Starts the lifetimes of the messages not yet seen.
 pub fn start_timed_messages(q: OutboundQueue, cells: &mut [u64], clock: u64) -> Started
-    ensures { λ r. ⌜ Leans (leanStart clock) (startLifetimes clock) q (now (cells .entry)) (r .queue) (now (cells .exit)) (r .answer) ⌝ }
+    ensures { λ r. ⌜ LeansOrStays toldDone (leanStart clock) (startLifetimes clock) q (now (cells .entry)) (r .queue) (now (cells .exit)) (r .answer) ⌝ }
 {
     if limits::CLOCK_MAX < clock {
         return Started {
@@ -78,7 +79,7 @@ fn is_blocked(q: OutboundQueue, cells: &[u64]) -> bool
 
 // The head goes to the flight, with lifetimes started. What is refused is refused before the first store.
 pub fn send_next(q: OutboundQueue, cells: &mut [u64], clock: u64) -> Sending
-    ensures { λ r. ⌜ LeansIn (λ room. leanSend room clock) (λ room. send room clock) q (now (cells .entry)) (r .queue) (now (cells .exit)) (r .answer) ⌝ }
+    ensures { λ r. ⌜ LeansInOrStays toldSent (λ room. leanSend room clock) (λ room. send room clock) q (now (cells .entry)) (r .queue) (now (cells .exit)) (r .answer) ⌝ }
 {
     if limits::CLOCK_MAX < clock {
         return Sending {

@@ -9,9 +9,10 @@ ghost use lib.ListN.{length};
 ghost use lib.Dec.{leb, ltb, eqb};
 ghost use Rattle.limits.specs.Limits.{numberMax};
 ghost use Rattle.model.specs.State.{at, laneOf};
+ghost use Rattle.model.specs.Told.{toldDone};
 ghost use Rattle.outbound_queue.specs.Outbound.{ringRoom};
 ghost use Rattle.outbound_send.specs.Pushes.{numberedAs, pushing};
-ghost use Rattle.outbound_queue.specs.Calls.{waitingIn, Goes};
+ghost use Rattle.outbound_queue.specs.Calls.{waitingIn, GoesOrStays};
 
 pub struct Pushed {
     pub queue: OutboundQueue,
@@ -62,7 +63,7 @@ pub fn push(
     offset: u64,
     length: u32,
 ) -> Pushed
-    ensures { λ r. ⌜ Goes (pushing (ringRoom (now (cells .entry))) message maximum offset length) q (now (cells .entry)) (r .queue) (now (cells .exit)) (r .answer) ⌝ }
+    ensures { λ r. ⌜ GoesOrStays toldDone (pushing (ringRoom (now (cells .entry))) message maximum offset length) q (now (cells .entry)) (r .queue) (now (cells .exit)) (r .answer) ⌝ }
 {
     if limits::OFFSET_MAX < offset {
         return Pushed {

@@ -12,7 +12,7 @@ ghost use mathlib.Core.Path.{_≡_};
 ghost use mathlib.Core.List.{List};
 ghost use Prim.Native.Nat.{ℕ, min};
 ghost use Rattle.limits.specs.Limits.{clockMax};
-ghost use Rattle.limits.specs.Flags.{isSet};
+ghost use Rattle.limits.specs.Flags.{isSet, bitOf};
 ghost use Rattle.model.specs.State.{laneOf};
 ghost use Rattle.model.specs.Rings.{laneAhead, head};
 ghost use Rattle.model.specs.Flight.{found};
@@ -73,8 +73,9 @@ pub fn peek(queue: PendingQueue, unordered: &[u64], ordered: &[u64]) -> Found
     ring::peek(queue.ordered, ordered)
 }
 
+// 1 for yes, 0 for no.
 fn flag(b: bool) -> u8
-    ensures { λ r. ⌜ isSet r ≡ b ⌝ }
+    ensures { λ r. ⌜ r ≡ bitOf b ⌝ }
 {
     if b {
         return 1;

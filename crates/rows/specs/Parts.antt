@@ -2,6 +2,7 @@
 --     patch-length     the whole is as long as it was
 --     part-same        the part that came back is what came back
 --     part-before, part-after     and every other part is as it was
+--     patch-own        and the whole is, once the part came back as it was
 use mathlib.Core.Path.{_≡_, sym, ap, _∙_}
 use Prim.Native.Nat.{ℕ, _+_, _-_, _≤_}
 use native.Mathlib.Omega.{arith}
@@ -18,6 +19,9 @@ module _ {A : Type 0} where
 
   pub part-length : (a b : ℕ) (ws : List A) → b ≤ length ws → length (part a b ws) ≡ b - a
   part-length a b ws h = simp (length-take, length-drop) (omega arith)
+
+  pub patch-own : (a b : ℕ) (ws : List A) → patch a b ws (part a b ws) ≡ ws
+  patch-own a b ws = ap (λ (r : List A). take a ws ++ r) (take-append-drop (b - a) (drop a ws)) ∙ take-append-drop a ws
 
   -- what stands before a part does not depend on what follows
   front : (a c d : ℕ) (ws rest : List A) → c ≤ d → d ≤ a → a ≤ length ws → part c d (take a ws ++ rest) ≡ part c d (take a ws)

@@ -27,21 +27,21 @@ use Rattle.outbound_send.specs.Lean.{leanStart, leanSend}
 use Rattle.outbound_abandon.specs.Lean.{leanAbandon}
 use Rattle.outbound_abandon.specs.LeanExpiry.{leanExpire, leanExpireTail}
 use Rattle.sender.specs.declared.Sender.{Sender}
-use Rattle.sender.specs.Value.{stateOf, Sums, Goes, Leans}
+use Rattle.sender.specs.Value.{stateOf, Sums, Goes, Leans, GoesOrStays, LeansOrStays}
 use Rattle.sender.specs.Runs.{Run, AsModel}
 
 -- what the function of each call promises of the sender that goes in and of the one that comes back; a question gives none back
 abbrev pub Called : Call → (s s′ : Sender) → Type 0
-Called (Open id m) s s′ = (a : Done) × Goes toldDone (openStream room01 id m) s s′ a
-Called (SetReliability id u k v) s s′ = (a : Done) × Goes toldDone (setReliability id u k v) s s′ a
-Called (SetLow id x) s s′ = (a : Done) × Goes toldDone (setLow id x) s s′ a
-Called (SetHigh id x) s s′ = (a : Done) × Goes toldDone (setHigh id x) s s′ a
-Called (Write id p o l) s s′ = (a : Written) × Goes toldWritten (write room01 id p o l) s s′ a
-Called (Release id r) s s′ = (a : Released) × Goes toldReleased (release id r) s s′ a
-Called (StartLifetimes clock) s s′ = (a : Done) × Leans toldDone (leanStart clock) (startLifetimes clock) s s′ a
-Called (Send clock) s s′ = (a : Sent) × Leans toldSent (leanSend room01 clock) (send room01 clock) s s′ a
-Called (ExpirePending clock) s s′ = (a : Expired) × Leans toldExpired (leanExpire clock) (expirePending clock) s s′ a
-Called (ExpirePendingTail clock) s s′ = (a : TailExpired) × Leans toldTail (leanExpireTail room01 clock) (expirePendingTail clock) s s′ a
+Called (Open id m) s s′ = (a : Done) × GoesOrStays toldDone (openStream room01 id m) s s′ a
+Called (SetReliability id u k v) s s′ = (a : Done) × GoesOrStays toldDone (setReliability id u k v) s s′ a
+Called (SetLow id x) s s′ = (a : Done) × GoesOrStays toldDone (setLow id x) s s′ a
+Called (SetHigh id x) s s′ = (a : Done) × GoesOrStays toldDone (setHigh id x) s s′ a
+Called (Write id p o l) s s′ = (a : Written) × GoesOrStays toldWritten (write room01 id p o l) s s′ a
+Called (Release id r) s s′ = (a : Released) × GoesOrStays toldReleased (release id r) s s′ a
+Called (StartLifetimes clock) s s′ = (a : Done) × LeansOrStays toldDone (leanStart clock) (startLifetimes clock) s s′ a
+Called (Send clock) s s′ = (a : Sent) × LeansOrStays toldSent (leanSend room01 clock) (send room01 clock) s s′ a
+Called (ExpirePending clock) s s′ = (a : Expired) × LeansOrStays toldExpired (leanExpire clock) (expirePending clock) s s′ a
+Called (ExpirePendingTail clock) s s′ = (a : TailExpired) × LeansOrStays toldTail (leanExpireTail room01 clock) (expirePendingTail clock) s s′ a
 Called (Abandon t) s s′ = (a : Abandoned) × Leans toldAbandoned (leanAbandon room01 t) (abandon t) s s′ a
 Called (Acknowledge t) s s′ = (a : ℕ) × Goes tellsNumber (acknowledge t) s s′ a
 Called (Pop t) s s′ = (a : Found) × Goes toldFound (pop t) s s′ a

@@ -1,8 +1,10 @@
 -- What a sender by value means; and its calls by 01's room, which is that of its cells.
 use mathlib.Core.Path.{_≡_, ap, subst}
 use Rattle.limits.specs.Limits.{Room, room01}
+use Rattle.limits.specs.Refusals.{done}
 use Rattle.limits.specs.Told.{Told}
 use Rattle.model.specs.State as State
+use Rattle.rows.specs.Spared.{Stays}
 use Rattle.outbound_queue.specs.Outbound.{Does}
 use Rattle.sender_head.specs.Whole.{senderOf, Counted}
 use Rattle.sender_head.specs.Calls as Head
@@ -27,6 +29,18 @@ abbrev pub Leans : {A : Type 0} → (told : A → Told) → (lean call : State.S
 Leans told lean call s s′ answer =
     (Does room01 (stateOf s) (record { after = stateOf s′; says = answer }) (lean (stateOf s)) (call (stateOf s)) × (Sums s → Sums s′))
     × Does room01 (stateOf s) (told answer) (told (lean (stateOf s) .says)) (told (call (stateOf s) .says))
+
+-- ---- a call that can be refused. Beside the promise above, a refusal gives back the sender that went in, word for word
+
+abbrev pub GoesOrStays : {A : Type 0} → (told : A → Told) → (State.Sender → State.Out A) → Sender → Sender → A → Type 0
+GoesOrStays told call s s′ answer = Goes told call s s′ answer × ((told answer .number ≡ done → ⊥) → s′ ≡ s)
+
+abbrev pub LeansOrStays : {A : Type 0} → (told : A → Told) → (lean call : State.Sender → State.Out A) → Sender → Sender → A → Type 0
+LeansOrStays told lean call s s′ answer = Leans told lean call s s′ answer × ((told answer .number ≡ done → ⊥) → s′ ≡ s)
+
+-- the same head and the same cells are the same sender
+pub stays : {s s′ : Sender} → Stays (s .head) (s .cells) (s′ .head) (s′ .cells) → s′ ≡ s
+stays e = λ i. record { head = e .0 i; cells = e .1 i }
 
 -- ---- an answer that is the model's tells what the model's tells
 

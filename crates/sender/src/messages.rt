@@ -14,7 +14,7 @@ ghost use Rattle.model.specs.Told.{toldDone, toldWritten, toldSent, toldExpired
 ghost use Rattle.outbound_send.specs.Lean.{leanStart, leanSend};
 ghost use Rattle.outbound_abandon.specs.Lean.{leanAbandon};
 ghost use Rattle.outbound_abandon.specs.LeanExpiry.{leanExpire, leanExpireTail};
-ghost use Rattle.sender.specs.Value.{Goes, Leans};
+ghost use Rattle.sender.specs.Value.{Leans, GoesOrStays, LeansOrStays};
 
 pub struct Writing {
     pub sender: Sender,
@@ -43,7 +43,7 @@ pub struct Abandoning {
 
 // The caller keeps the bytes: a message is where they begin and how many they are. Refusals: 3, 6, 1, 7, 8, 9.
 pub fn write(s: Sender, identifier: u16, protocol: u32, offset: u64, length: u64) -> Writing
-    ensures { λ r. ⌜ Goes toldWritten (write room01 identifier protocol offset length) s (r .sender) (r .answer) ⌝ }
+    ensures { λ r. ⌜ GoesOrStays toldWritten (write room01 identifier protocol offset length) s (r .sender) (r .answer) ⌝ }
 {
     let mut cells = s.cells;
     let writing = sender_write::write(s.head, &mut cells, identifier, protocol, offset, length);
@@ -60,7 +60,7 @@ pub fn write(s: Sender, identifier: u16, protocol: u32, offset: u64, length: u64
 
 // Starts the lifetimes of the messages not yet seen. Refusal: 1.
 pub fn start_lifetimes(s: Sender, clock: u64) -> Changed
-    ensures { λ r. ⌜ Leans toldDone (leanStart clock) (startLifetimes clock) s (r .sender) (r .answer) ⌝ }
+    ensures { λ r. ⌜ LeansOrStays toldDone (leanStart clock) (startLifetimes clock) s (r .sender) (r .answer) ⌝ }
 {
     let mut cells = s.cells;
     let started = sender_calls::start_lifetimes(s.head, &mut cells, clock);
@@ -77,7 +77,7 @@ pub fn start_lifetimes(s: Sender, clock: u64) -> Changed
 
 // The next chunk goes to the flight. Refusals: 1; 10 where a chunk is pending.
 pub fn send(s: Sender, clock: u64) -> Sending
-    ensures { λ r. ⌜ Leans toldSent (leanSend room01 clock) (send room01 clock) s (r .sender) (r .answer) ⌝ }
+    ensures { λ r. ⌜ LeansOrStays toldSent (leanSend room01 clock) (send room01 clock) s (r .sender) (r .answer) ⌝ }
 {
     let mut cells = s.cells;
     let sending = sender_calls::send(s.head, &mut cells, clock);
@@ -94,7 +94,7 @@ pub fn send(s: Sender, clock: u64) -> Sending
 
 // The message at the head goes if it is due, and takes no TSN. Refusal: 1.
 pub fn expire_pending(s: Sender, clock: u64) -> Expiring
-    ensures { λ r. ⌜ Leans toldExpired (leanExpire clock) (expirePending clock) s (r .sender) (r .answer) ⌝ }
+    ensures { λ r. ⌜ LeansOrStays toldExpired (leanExpire clock) (expirePending clock) s (r .sender) (r .answer) ⌝ }
 {
     let mut cells = s.cells;
     let expiring = sender_calls::expire_pending(s.head, &mut cells, clock);
@@ -111,7 +111,7 @@ pub fn expire_pending(s: Sender, clock: u64) -> Expiring
 
 // Abandons the message under way, if its rest has expired. Refusal: 1.
 pub fn expire_pending_tail(s: Sender, clock: u64) -> TailExpiring
-    ensures { λ r. ⌜ Leans toldTail (leanExpireTail room01 clock) (expirePendingTail clock) s (r .sender) (r .answer) ⌝ }
+    ensures { λ r. ⌜ LeansOrStays toldTail (leanExpireTail room01 clock) (expirePendingTail clock) s (r .sender) (r .answer) ⌝ }
 {
     let mut cells = s.cells;
     let tail = sender_calls::expire_pending_tail(s.head, &mut cells, clock);

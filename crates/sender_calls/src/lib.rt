@@ -1,6 +1,6 @@
 // The sender's calls on lifetimes, sending, expiry and abandonment: each lends the queue's half of the cells to the crate below, and the table
 // of streams stays but for the next SSN behind an ordered message that expires whole. Each promises by `Does` what it does in states that no
-// call makes, and 01's call in every `Good` state.
+// call makes, and 01's call in every `Good` state; a refusal leaves the head and every word.
 pub mod flight;
 
 use model::Abandoned;
@@ -12,10 +12,11 @@ use sender_head::Head;
 ghost use Rattle.model.specs.Rings.{startLifetimes, send, expirePendingTail, abandon, expirePending};
 ghost use Rattle.outbound_send.specs.Lean.{leanStart, leanSend};
 ghost use Rattle.outbound_abandon.specs.Lean.{leanAbandon};
-ghost use Rattle.outbound_abandon.specs.LeanExpiry.{leanExpireTail, dropped, leanExpire};
+ghost use Rattle.outbound_abandon.specs.LeanExpiry.{leanExpireTail, leanExpire};
 ghost use Rattle.sender_head.specs.Whole.{roomIn};
-ghost use Rattle.model.specs.State.{withStreams};
-ghost use Rattle.sender_head.specs.Calls.{Becomes, Leans};
+ghost use Rattle.model.specs.Told.{toldDone, toldSent, toldExpired, toldTail};
+ghost use Rattle.sender_head.specs.Calls.{Leans, LeansOrStays};
+ghost use Rattle.sender_calls.specs.Behind.{LowersBehind};
 
 pub struct Started {
     pub head: Head,
@@ -39,7 +40,7 @@ pub struct Abandoning {
 
 // Starts the lifetimes of the messages not yet seen. Refusal: 1.
 pub fn start_lifetimes(h: Head, cells: &mut [u64], clock: u64) -> Started
-    ensures { λ r. ⌜ Leans (leanStart clock) (startLifetimes clock) h (now (cells .entry)) (r .head) (now (cells .exit)) (r .answer) ⌝ }
+    ensures { λ r. ⌜ LeansOrStays toldDone (leanStart clock) (startLifetimes clock) h (now (cells .entry)) (r .head) (now (cells .exit)) (r .answer) ⌝ }
 {
     let k = sender_head::table_words(cells);
     let n = cells.len();
@@ -57,7 +58,7 @@ pub fn start_lifetimes(h: Head, cells: &mut [u64], clock: u64) -> Started
 
 // The next chunk goes to the flight. Refusals: 1; 10 where a chunk is pending.
 pub fn send(h: Head, cells: &mut [u64], clock: u64) -> Sending
-    ensures { λ r. ⌜ Leans (leanSend (roomIn (now (cells .entry))) clock) (send (roomIn (now (cells .entry))) clock) h (now (cells .entry)) (r .head) (now (cells .exit)) (r .answer) ⌝ }
+    ensures { λ r. ⌜ LeansOrStays toldSent (leanSend (roomIn (now (cells .entry))) clock) (send (roomIn (now (cells .entry))) clock) h (now (cells .entry)) (r .head) (now (cells .exit)) (r .answer) ⌝ }
 {
     let k = sender_head::table_words(cells);
     let n = cells.len();
@@ -75,7 +76,7 @@ pub fn send(h: Head, cells: &mut [u64], clock: u64) -> Sending
 
 // Abandons the message under way, if its rest has expired. Refusal: 1.
 pub fn expire_pending_tail(h: Head, cells: &mut [u64], clock: u64) -> TailExpiring
-    ensures { λ r. ⌜ Leans (leanExpireTail (roomIn (now (cells .entry))) clock) (expirePendingTail clock) h (now (cells .entry)) (r .head) (now (cells .exit)) (r .answer) ⌝ }
+    ensures { λ r. ⌜ LeansOrStays toldTail (leanExpireTail (roomIn (now (cells .entry))) clock) (expirePendingTail clock) h (now (cells .entry)) (r .head) (now (cells .exit)) (r .answer) ⌝ }
 {
     let k = sender_head::table_words(cells);
     let n = cells.len();
@@ -116,7 +117,7 @@ pub struct Expiring {
 
 // Behind an ordered message the next SSN of its stream drops.
 fn lower_behind(h: Head, cells: &mut [u64], answer: Expired)
-    ensures { λ _. ⌜ Becomes (λ s. withStreams (dropped answer (s .streams)) s) h (now (cells .entry)) h (now (cells .exit)) ⌝ }
+    ensures { λ _. ⌜ LowersBehind answer h (now (cells .entry)) (now (cells .exit)) ⌝ }
 {
     match answer {
         Expired::Nothing => {}
@@ -136,7 +137,7 @@ fn lower_behind(h: Head, cells: &mut [u64], answer: Expired)
 
 // The message at the head goes if it is due, and takes no TSN. Refusal: 1.
 pub fn expire_pending(h: Head, cells: &mut [u64], clock: u64) -> Expiring
-    ensures { λ r. ⌜ Leans (leanExpire clock) (expirePending clock) h (now (cells .entry)) (r .head) (now (cells .exit)) (r .answer) ⌝ }
+    ensures { λ r. ⌜ LeansOrStays toldExpired (leanExpire clock) (expirePending clock) h (now (cells .entry)) (r .head) (now (cells .exit)) (r .answer) ⌝ }
 {
     let k = sender_head::table_words(cells);
     let n = cells.len();

@@ -5,9 +5,11 @@ use mathlib.Core.List.{List}
 use Prim.Native.Nat.{ℕ}
 use lib.ListN.{length}
 use Rattle.limits.specs.Limits.{Room}
+use Rattle.limits.specs.Told.{Told}
 use Rattle.model.specs.declared.Stream.{Stream}
 use Rattle.model.specs.State.{Sender, Out}
-use Rattle.rows.specs.Parts.{part, patch}
+use Rattle.rows.specs.Parts.{part, patch, patch-own}
+use Rattle.rows.specs.Spared.{Spares}
 use Rattle.stream_table.specs.Tables.{tableOf}
 use Rattle.outbound_queue.specs.declared.OutboundQueue.{OutboundQueue}
 use Rattle.outbound_queue.specs.Outbound.{Does, ringRoom}
@@ -15,7 +17,7 @@ use Rattle.outbound_queue.specs.Outbound as Rings
 use Rattle.outbound_queue.specs.Calls as Queue
 use Rattle.sender_head.specs.declared.Head.{Head}
 use Rattle.sender_head.specs.Whole.{tableWords, Halves, halves, roomIn, senderOf, Counted, parts-are, queue-back, sender-by, counted-by}
-use Rattle.sender_head.specs.Calls.{Goes, Becomes, Leans}
+use Rattle.sender_head.specs.Calls.{Goes, Becomes, Leans, GoesOrStays, LeansOrStays}
 
 -- the head with another queue
 abbrev pub headed : OutboundQueue → Head → Head
@@ -104,3 +106,16 @@ module _ (h : Head) (ws : List ℕ) (k : ℕ) (counted : k ≡ tableWords ws) (q
       does-of (lean (roomIn ws)) (call (roomIn ws)) (told-of (back-sender h ws k counted q p e)) (lent-sender h ws k counted) (g .0 (roomIn ws) (open-streams h ws k counted) (lent-room h ws k counted)),
       still (g .1),
     )
+
+    -- and what it leaves, the sender's call leaves
+    pub spares-lent : (number : ℕ) → Spares number (h .queue) (lent h ws k counted) q p → Spares number h ws (headed q h) after
+    spares-lent number s refused = let e = s refused in (ap (λ (o : OutboundQueue). headed o h) (e .0), ap (patch k (length ws) ws) (e .1) ∙ patch-own k (length ws) ws)
+
+    pub goes-or-stays-lent : {A : Type 0} {answer : A} (told : A → Told) (call : Sender → Out A) → Queue.GoesOrStays told call (h .queue) (lent h ws k counted) q p answer → GoesOrStays told call h ws (headed q h) after answer
+    goes-or-stays-lent {answer = answer} told call g = (goes-lent call (g .0), spares-lent (told answer .number) (g .1))
+
+    pub leans-or-stays-lent : {A : Type 0} {answer : A} (told : A → Told) (lean call : Sender → Out A) → Queue.LeansOrStays told lean call (h .queue) (lent h ws k counted) q p answer → LeansOrStays told lean call h ws (headed q h) after answer
+    leans-or-stays-lent {answer = answer} told lean call g = (leans-lent lean call (g .0), spares-lent (told answer .number) (g .1))
+
+    pub leans-in-or-stays-lent : {A : Type 0} {answer : A} (told : A → Told) (lean call : Room → Sender → Out A) → Queue.LeansInOrStays told lean call (h .queue) (lent h ws k counted) q p answer → LeansOrStays told (lean (roomIn ws)) (call (roomIn ws)) h ws (headed q h) after answer
+    leans-in-or-stays-lent {answer = answer} told lean call g = (leans-in-lent lean call (g .0), spares-lent (told answer .number) (g .1))

@@ -5,7 +5,8 @@ use Prim.Native.Nat.{ℕ}
 use lib.ListN.{length}
 use Rattle.model.specs.declared.Stream.{Stream}
 use Rattle.model.specs.State.{withStreams}
-use Rattle.rows.specs.Parts.{part, patch}
+use Rattle.rows.specs.Parts.{part, patch, patch-own}
+use Rattle.rows.specs.Spared.{Stays}
 use Rattle.stream_table.specs.Tables.{tableOf}
 use Rattle.sender_head.specs.declared.Head.{Head}
 use Rattle.sender_head.specs.Whole.{Halves, tableWords, halves, senderOf, Counted, parts-are, table-back, sender-by, counted-by, other-table}
@@ -25,3 +26,7 @@ module _ (h : Head) (ws p : List ℕ) (k : ℕ) (counted : k ≡ tableWords ws) 
   -- the counters of bytes are the queue's
   pub counted-still : Counted h ws → Counted after (patch 0 k ws p)
   counted-still q = counted-by after (patch 0 k ws p) (table-back ws k counted p same) q
+
+  -- the table came back as it was
+  pub table-stays : Stays (h .streams) (part 0 k ws) n p → Stays h ws after (patch 0 k ws p)
+  table-stays e = (ap (λ (i : ℕ). record { queue = h .queue; streams = i }) (e .0), ap (patch 0 k ws) (e .1) ∙ patch-own 0 k ws)

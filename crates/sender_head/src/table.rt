@@ -31,7 +31,7 @@ pub fn replace(h: Head, cells: &mut [u64], place: usize, stream: Stream)
     stream_table::update(h.streams, &mut cells[0..k], place, stream)
 }
 
-// One more at the end, where there is room.
+// One more at the end, where there is room; else the head and every word stay.
 pub fn join(h: Head, cells: &mut [u64], stream: Stream) -> Joined
     ensures { λ r. ⌜ Joins stream h (now (cells .entry)) (r .head) (now (cells .exit)) (r .done) ⌝ }
 {

@@ -1,5 +1,6 @@
 // The calls that concern the streams alone, over a head by value and the lent cells. Each finds its stream in the table, changes it by value
-// and puts it back; the queue's cells are never lent. The contracts are 01's, for every head and every cells.
+// and puts it back; the queue's cells are never lent. The contracts are 01's, for every head and every cells;
+// a refusal leaves the head and every word.
 use limits::NOT_OPEN;
 use model::Done;
 use model::Released;
@@ -8,8 +9,9 @@ use stream_table::Place;
 ghost use Rattle.model.specs.State.{withStreams};
 ghost use Rattle.model.specs.Streams.{find, openStream, setReliability, setLow, setHigh, release};
 ghost use Rattle.model.specs.Rings.{dropSsn};
+ghost use Rattle.model.specs.Told.{toldDone, toldReleased};
 ghost use Rattle.sender_head.specs.Whole.{roomIn};
-ghost use Rattle.sender_head.specs.Calls.{Goes, Becomes};
+ghost use Rattle.sender_head.specs.Calls.{GoesOrStays, Becomes};
 
 pub struct Opening {
     pub head: Head,
@@ -20,7 +22,7 @@ pub struct Opening {
 
 // A new stream: ordered, Reliable, and never high.
 pub fn open_stream(h: Head, cells: &mut [u64], identifier: u16, maximum: u32) -> Opening
-    ensures { λ r. ⌜ Goes (openStream (roomIn (now (cells .entry))) identifier maximum) h (now (cells .entry)) (r .head) (now (cells .exit)) (r .answer) ⌝ }
+    ensures { λ r. ⌜ GoesOrStays toldDone (openStream (roomIn (now (cells .entry))) identifier maximum) h (now (cells .entry)) (r .head) (now (cells .exit)) (r .answer) ⌝ }
 {
     if maximum < 1 {
         return Opening {
@@ -67,7 +69,7 @@ pub fn set_reliability(
     kind: u8,
     value: u32,
 ) -> Done
-    ensures { λ r. ⌜ Goes (setReliability identifier unordered kind value) h (now (cells .entry)) h (now (cells .exit)) r ⌝ }
+    ensures { λ r. ⌜ GoesOrStays toldDone (setReliability identifier unordered kind value) h (now (cells .entry)) h (now (cells .exit)) r ⌝ }
 {
     let place = sender_head::table::seek(h, cells, identifier);
     let Place::At(i, old) = place else {
@@ -79,7 +81,7 @@ pub fn set_reliability(
 }
 
 pub fn set_low_threshold(h: Head, cells: &mut [u64], identifier: u16, low: u64) -> Done
-    ensures { λ r. ⌜ Goes (setLow identifier low) h (now (cells .entry)) h (now (cells .exit)) r ⌝ }
+    ensures { λ r. ⌜ GoesOrStays toldDone (setLow identifier low) h (now (cells .entry)) h (now (cells .exit)) r ⌝ }
 {
     let place = sender_head::table::seek(h, cells, identifier);
     let Place::At(i, old) = place else {
@@ -91,7 +93,7 @@ pub fn set_low_threshold(h: Head, cells: &mut [u64], identifier: u16, low: u64) 
 }
 
 pub fn set_high_threshold(h: Head, cells: &mut [u64], identifier: u16, high: u64) -> Done
-    ensures { λ r. ⌜ Goes (setHigh identifier high) h (now (cells .entry)) h (now (cells .exit)) r ⌝ }
+    ensures { λ r. ⌜ GoesOrStays toldDone (setHigh identifier high) h (now (cells .entry)) h (now (cells .exit)) r ⌝ }
 {
     let place = sender_head::table::seek(h, cells, identifier);
     let Place::At(i, old) = place else {
@@ -106,7 +108,7 @@ pub fn set_high_threshold(h: Head, cells: &mut [u64], identifier: u16, high: u64
 
 // Bytes of a stream have left the sender. The answer tells whether the amount fell to the low threshold.
 pub fn release(h: Head, cells: &mut [u64], identifier: u16, released: i64) -> Released
-    ensures { λ r. ⌜ Goes (release identifier released) h (now (cells .entry)) h (now (cells .exit)) r ⌝ }
+    ensures { λ r. ⌜ GoesOrStays toldReleased (release identifier released) h (now (cells .entry)) h (now (cells .exit)) r ⌝ }
 {
     let place = sender_head::table::seek(h, cells, identifier);
     let Place::At(i, old) = place else {

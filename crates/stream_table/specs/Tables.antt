@@ -9,7 +9,7 @@ use native.Mathlib.Nat.{zero-add, add-zero}
 use native.Mathlib.Numerals.{add-one}
 use native.Mathlib.Omega.{arith}
 use lib.ListN.{length, getD, set, take, drop, length-take}
-use lib.Seq.{getD-take, take-set-lt, take-suc-set, set-out}
+use lib.Seq.{getD-take, take-all, take-set-lt, take-suc-set, set-out}
 use lib.Dec.{eqb}
 use borrow.Author.Tests.{eqb-true, eq-eqb, ne-eqb}
 use Rattle.model.specs.declared.Stream.{Stream}
@@ -144,3 +144,10 @@ pub table-full : (n : ℕ) (ws : List ℕ) (t : Stream) → roomOf ws ≤ n → 
 table-full n ws t h =
     let k : roomOf ws ≤ length (tableOf n ws) = omega (arith, length-table n ws) in
     pushed-full (roomOf ws) (tableOf n ws) t k
+
+-- the room itself as the count means the same table as any count beyond it
+pub table-whole : (n m : ℕ) (ws : List ℕ) → m ≡ roomOf ws → roomOf ws ≤ n → tableOf m ws ≡ tableOf n ws
+table-whole n m ws e h =
+    let a : length (streams ws) ≤ n = omega (arith, length-slots streamIn ws) in
+    let b : length (streams ws) ≤ m = omega (arith, length-slots streamIn ws) in
+    take-all m (streams ws) b ∙ sym (take-all n (streams ws) a)

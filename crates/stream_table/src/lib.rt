@@ -4,10 +4,12 @@ pub mod slot;
 
 use model::Stream;
 ghost use mathlib.Core.Path.{_≡_};
+ghost use mathlib.Core.Bool.{false};
 ghost use lib.ListN.{length, set};
 ghost use lib.Dec.{ltb};
 ghost use Rattle.cells.specs.Slots.{roomOf};
 ghost use Rattle.rows.specs.Joins.{pushed};
+ghost use Rattle.rows.specs.Spared.{Stays};
 ghost use Rattle.stream_table.specs.Tables.{tableOf, sought};
 
 // Where a stream stands, and the stream.
@@ -46,11 +48,12 @@ pub fn find(count: usize, cells: &[u64], identifier: u16) -> Place
     Place::Nothing
 }
 
-// One more at the end, where there is room.
+// One more at the end, where there is room; else the count and every word stay.
 pub fn open(count: usize, cells: &mut [u64], stream: Stream) -> Opened
-    ensures { λ r. ⌜ (tableOf (r .count) (now (cells .exit)) ≡ pushed (roomOf (now (cells .entry))) (tableOf count (now (cells .entry))) stream) × (r .done ≡ ltb (length (tableOf count (now (cells .entry)))) (roomOf (now (cells .entry)))) ⌝ }
+    ensures { λ r. ⌜ (tableOf (r .count) (now (cells .exit)) ≡ pushed (roomOf (now (cells .entry))) (tableOf count (now (cells .entry))) stream) × (r .done ≡ ltb (length (tableOf count (now (cells .entry)))) (roomOf (now (cells .entry)))) × (r .done ≡ false → Stays count (now (cells .entry)) (r .count) (now (cells .exit))) ⌝ }
 {
-    if cells::room(cells) <= count {
+    let room = cells::room(cells);
+    if room <= count {
         return Opened {
             count: count,
             done: false,

@@ -1,6 +1,6 @@
 -- `flat_calls::expire_pending_tail` meets its contract: the call below does the same, and its answer is flat.
-use Rattle.flat.specs.Replies.{flatTail}
-use Rattle.flat.specs.Calls.{leans}
+use Rattle.flat.specs.Replies.{flatTail, refusalOfFreed}
+use Rattle.flat.specs.Calls.{leans-or-stays}
 use borrow.Author.Needs.{needs}
 use Rattle.flat_calls.proofs.expire_pending_tail.Statement.{statement}
 use Rattle.flat_calls.proofs.expire_pending_tail.Tie as tie
@@ -13,4 +13,4 @@ expire-pending-tail-spec =
     (λ c κs. search needs)
     (λ c κs. search needs)
     (λ c. search needs)
-    (λ c. leans flatTail (c .before .tail .ensures) (rw (c .before .before .before .before .before .before .by-numbers .ensures) at (c .before .before .before .before .expire-pending-tail .ensures))))
+    (λ c. leans-or-stays flatTail (c .before .tail .ensures) refusalOfFreed (rw (c .before .before .before .before .before .before .by-numbers .ensures) at (c .before .before .before .before .expire-pending-tail .ensures))))

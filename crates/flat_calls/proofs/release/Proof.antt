@@ -1,7 +1,7 @@
 -- `flat_calls::release` meets its contract: the call below does the same, and its answer is flat.
 use mir.Facts.{toZ-ofZ}
-use Rattle.flat.specs.Replies.{flatReleased}
-use Rattle.flat.specs.Calls.{goes}
+use Rattle.flat.specs.Replies.{flatReleased, refusalOfReply}
+use Rattle.flat.specs.Calls.{goes-or-stays}
 use borrow.Author.Needs.{needs}
 use Rattle.flat_calls.proofs.release.Statement.{statement}
 use Rattle.flat_calls.proofs.release.Tie as tie
@@ -13,4 +13,4 @@ release-spec =
     (λ c κs. search needs)
     (λ c κs. search needs)
     (λ c. search needs)
-    (λ c. goes flatReleased (c .released .ensures) (rw (toZ-ofZ (c .before .before .before .before .before .before .fits .released)) at (c .before .before .before .release .ensures))))
+    (λ c. goes-or-stays flatReleased (c .released .ensures) refusalOfReply (rw (toZ-ofZ (c .before .before .before .before .before .before .fits .released)) at (c .before .before .before .release .ensures))))

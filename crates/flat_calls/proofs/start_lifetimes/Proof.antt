@@ -1,6 +1,6 @@
 -- `flat_calls::start_lifetimes` meets its contract: the call below does the same, and its answer is flat.
-use Rattle.flat.specs.Replies.{flatDone}
-use Rattle.flat.specs.Calls.{leans}
+use Rattle.flat.specs.Replies.{flatDone, refusalOfReply}
+use Rattle.flat.specs.Calls.{leans-or-stays}
 use borrow.Author.Needs.{needs}
 use Rattle.flat_calls.proofs.start_lifetimes.Statement.{statement}
 use Rattle.flat_calls.proofs.start_lifetimes.Tie as tie
@@ -13,4 +13,4 @@ start-lifetimes-spec =
     (λ c κs. search needs)
     (λ c κs. search needs)
     (λ c. search needs)
-    (λ c. leans flatDone (c .before .done .ensures) (rw (c .before .before .before .before .before .before .by-numbers .ensures) at (c .before .before .before .before .start-lifetimes .ensures))))
+    (λ c. leans-or-stays flatDone (c .before .done .ensures) refusalOfReply (rw (c .before .before .before .before .before .before .by-numbers .ensures) at (c .before .before .before .before .start-lifetimes .ensures))))

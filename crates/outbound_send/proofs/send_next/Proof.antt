@@ -1,5 +1,5 @@
 -- A law for each way out.
-use mathlib.Core.Path.{_≡_, sym, ap, _∙_}
+use mathlib.Core.Path.{_≡_, refl, sym, ap, _∙_}
 use Prim.Native.Nat.{ℕ, _/_, min}
 use denote.Ref.{now}
 use lib.ListN.{length}
@@ -13,7 +13,7 @@ use Rattle.outbound_send.proofs.send_next.Tie as tie
 returns : tie.Need-returns
 returns c =
     let a = c .before .before .args in
-    (λ room ts r. does (λ g. lean-send (a .clock) g room) (send-late room (a .clock) (senderOf ts (a .q) (now (a .cells))) (c .if1 .taken)), λ h. h)
+    ((λ room ts r. does (λ g. lean-send (a .clock) g room) (send-late room (a .clock) (senderOf ts (a .q) (now (a .cells))) (c .if1 .taken)), λ h. h), λ n. (refl, refl))
 
 is-blocked-requires : tie.Need-is-blocked-requires
 is-blocked-requires c κs = search needs
@@ -25,7 +25,7 @@ returns-2 : tie.Need-returns-2
 returns-2 c =
     let a = c .before .before .before .before .before .args in
     let b = sym (c .before .is-blocked .ensures) ∙ c .if2 .taken in
-    (λ room ts r. does (λ g. lean-send (a .clock) g room) (send-full room (a .clock) (senderOf ts (a .q) (now (a .cells))) r (c .before .before .before .if1 .left) b), λ h. h)
+    ((λ room ts r. does (λ g. lean-send (a .clock) g room) (send-full room (a .clock) (senderOf ts (a .q) (now (a .cells))) r (c .before .before .before .if1 .left) b), λ h. h), λ n. (refl, refl))
 
 next-tsn-requires : tie.Need-next-tsn-requires
 next-tsn-requires c κs = search needs
@@ -52,10 +52,13 @@ returns-3 c =
     let e = c .before .before .before .before .before .before .before .start-rings .ensures in
     let t = c .before .before .before .take-head .ensures in
     let q = sym (t .1) ∙ c .enum-told .given .1 in (
-      λ room ts r.
-          let s = senderOf ts (a .q) (now (a .cells)) in
-          does (λ g. lean-send (a .clock) g room) (send-none room (a .clock) s r h (in-range (a .clock) s h (e .0 ts)) (t .0 .0 ts) q),
-      λ k. t .0 .1 (e .1 k),
+      (
+        λ room ts r.
+            let s = senderOf ts (a .q) (now (a .cells)) in
+            does (λ g. lean-send (a .clock) g room) (send-none room (a .clock) s r h (in-range (a .clock) s h (e .0 ts)) (t .0 .0 ts) q),
+        λ k. t .0 .1 (e .1 k),
+      ),
+      λ n. absurd (n refl),
     )
 
 stamp-requires : tie.Need-stamp-requires
@@ -79,11 +82,14 @@ returns-4 c =
     let vs = c .before .before .before .before .before .before .before .before .before .before .before .before .before .start-rings .last .1 .0 in
     let len : length vs ≡ length (now (a .cells)) = let q = c .before .before .before .before .before .before .before .before .before .before .before .before .before .start-rings in search needs in
     let room-stays : ringRoom vs ≡ ringRoom (now (a .cells)) = ap (λ (n : ℕ). min (n / 24) limit) len in (
-      λ room ts r.
-          let s = senderOf ts (a .q) (now (a .cells)) in
-          does (λ g. lean-send (a .clock) g room)
-          (send-one room (a .clock) s r h (in-range (a .clock) s h (e .0 ts)) (t .0 .0 ts) (x .0 .0) (sym (t .1) ∙ x .1) fits (c .before .before .before .before .stamp .ensures) room-stays (f .0 ts) (c .before .before .before .before .before .before .before .before .before .before .before .before .before .before .before .next-tsn .ensures ts)),
-      λ k. f .1 (t .0 .1 (e .1 k)),
+      (
+        λ room ts r.
+            let s = senderOf ts (a .q) (now (a .cells)) in
+            does (λ g. lean-send (a .clock) g room)
+            (send-one room (a .clock) s r h (in-range (a .clock) s h (e .0 ts)) (t .0 .0 ts) (x .0 .0) (sym (t .1) ∙ x .1) fits (c .before .before .before .before .stamp .ensures) room-stays (f .0 ts) (c .before .before .before .before .before .before .before .before .before .before .before .before .before .before .before .next-tsn .ensures ts)),
+        λ k. f .1 (t .0 .1 (e .1 k)),
+      ),
+      λ n. absurd (n refl),
     )
 
 pub send-next-spec : {M : Type 1} → statement M

@@ -3,6 +3,7 @@ use mathlib.Core.Path.{_∙_, sym, ap}
 use mathlib.Core.Bool.{true, false}
 use Prim.Native.Nat.{_+_}
 use denote.Ref.{now}
+use Rattle.limits.specs.Flags.{isSet, set-back}
 use Rattle.model.specs.State.{Pending, laneOf}
 use Rattle.pending_queue.specs.Queue.{pendingIn, bytesIn, counted-less}
 use Rattle.pending_queue.specs.Fronts.{popped-none, popped-one, popped-bytes}
@@ -46,7 +47,7 @@ returns-2 c =
     let p = pendingIn (a .queue) (now (a .unordered)) (now (a .ordered)) in
     let chunk = c .before .before .before .before .before .before .before .before .before .before .front .given .0 .0 in
     let q = sym (c .before .before .before .before .before .before .before .before .before .before .before .before .peek .ensures) ∙ c .before .before .before .before .before .before .before .before .before .before .front .given .1 in
-    let t = popped-one p true chunk (c .before .before .before .before .before .flag .ensures) (sym (ap laneOf (c .before .if1 .taken)) ∙ c .before .before .from-unordered .ensures) q (c .shorter .ensures) in
+    let t = popped-one p true chunk (ap isSet (c .before .before .before .before .before .flag .ensures) ∙ set-back _) (sym (ap laneOf (c .before .if1 .taken)) ∙ c .before .before .from-unordered .ensures) q (c .shorter .ensures) in
     (t, sym q, counted-less (a .queue) (now (a .unordered)) (now (a .ordered)) (chunk .length) (ap (λ (x : Pending). bytesIn x + chunk .length) t ∙ popped-bytes p chunk q) (search needs) (c .before .before .before .before .before .before .before .wrapping-sub-u64 .ensures))
 
 shorter-requires-2 : tie.Need-shorter-requires-2
@@ -58,7 +59,7 @@ returns-3 c =
     let p = pendingIn (a .queue) (now (a .unordered)) (now (a .ordered)) in
     let chunk = c .before .before .before .before .before .before .before .before .before .before .front .given .0 .0 in
     let q = sym (c .before .before .before .before .before .before .before .before .before .before .before .before .peek .ensures) ∙ c .before .before .before .before .before .before .before .before .before .before .front .given .1 in
-    let t = popped-one p false chunk (c .before .before .before .before .before .flag .ensures) (sym (ap laneOf (c .before .if1 .left)) ∙ c .before .before .from-unordered .ensures) q (c .shorter2 .ensures) in
+    let t = popped-one p false chunk (ap isSet (c .before .before .before .before .before .flag .ensures) ∙ set-back _) (sym (ap laneOf (c .before .if1 .left)) ∙ c .before .before .from-unordered .ensures) q (c .shorter2 .ensures) in
     (t, sym q, counted-less (a .queue) (now (a .unordered)) (now (a .ordered)) (chunk .length) (ap (λ (x : Pending). bytesIn x + chunk .length) t ∙ popped-bytes p chunk q) (search needs) (c .before .before .before .before .before .before .before .wrapping-sub-u64 .ensures))
 
 pub pop-spec : {M : Type 1} → statement M

@@ -4,7 +4,7 @@ use lib.IntN.{ℤ}
 use mir.Facts.{toZ-ofZ}
 use Rattle.model.specs.Streams.{release}
 use Rattle.model.specs.Told.{toldReleased}
-use Rattle.sender.specs.Value.{stateOf, with-told}
+use Rattle.sender.specs.Value.{stateOf, with-told, stays}
 use borrow.Author.Needs.{needs}
 use Rattle.sender.proofs.release.Statement.{statement}
 use Rattle.sender.proofs.release.Tie as tie
@@ -19,7 +19,7 @@ returns : tie.Need-returns
 returns c =
     let a = c .before .before .before .before .before .args in
     let m = c .before .release in
-    with-told toldReleased (m .ensures .0 ∙ ap (λ (z : ℤ). release (a .identifier) z (stateOf (a .s))) (toZ-ofZ (c .before .before .before .before .before .fits .released)), m .ensures .1)
+    (with-told toldReleased (m .ensures .0 .0 ∙ ap (λ (z : ℤ). release (a .identifier) z (stateOf (a .s))) (toZ-ofZ (c .before .before .before .before .before .fits .released)), m .ensures .0 .1), λ n. stays (m .ensures .1 n))
 
 pub release-spec : {M : Type 1} → statement M
 release-spec = tie.close (tie.spec slice-aggregate-release release-requires returns)

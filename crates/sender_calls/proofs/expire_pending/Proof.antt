@@ -3,9 +3,10 @@ use mathlib.Core.Path.{ap, _∙_}
 use denote.Ref.{now}
 use Rattle.model.specs.State.{Sender, withStreams}
 use Rattle.model.specs.Rings.{expirePending}
+use Rattle.model.specs.Told.{toldExpired}
 use Rattle.outbound_abandon.specs.LeanExpiry.{dropped, leanExpire}
 use Rattle.sender_head.specs.Whole.{roomIn}
-use Rattle.sender_head.specs.Lent.{open-streams, lent-sender, lent-counted, back-sender, back-counted, does-of, told-of}
+use Rattle.sender_head.specs.Lent.{open-streams, lent-sender, lent-counted, back-sender, back-counted, does-of, told-of, spares-lent}
 use borrow.Author.Needs.{needs}
 use Rattle.sender_calls.proofs.expire_pending.Statement.{statement}
 use Rattle.sender_calls.proofs.expire_pending.Tie as tie
@@ -45,8 +46,10 @@ returns c =
     let p = m .last .1 .0 in
     let l = c .before .before .lower-behind .ensures in
     let back = back-sender h ws _ k q p (search needs) in
-    let told = l .0 ∙ ap (λ (s : Sender). withStreams (dropped (m .result .answer) (s .streams)) s) back in
-    (does-of (leanExpire (a .clock)) (expirePending (a .clock)) (told-of told) (lent-sender h ws _ k) (m .ensures .0 (roomIn ws) (open-streams h ws _ k)), λ z. l .1 (back-counted h ws _ k q p (search needs) (m .ensures .1 (lent-counted h ws _ k z))))
+    let told = l .0 .0 ∙ ap (λ (s : Sender). withStreams (dropped (m .result .answer) (s .streams)) s) back in
+    let goes = does-of (leanExpire (a .clock)) (expirePending (a .clock)) (told-of told) (lent-sender h ws _ k) (m .ensures .0 .0 (roomIn ws) (open-streams h ws _ k)) in
+    let stays = spares-lent h ws _ k q p (search needs) (toldExpired (m .result .answer) .number) (m .ensures .1) in
+    ((goes, λ z. l .0 .1 (back-counted h ws _ k q p (search needs) (m .ensures .0 .1 (lent-counted h ws _ k z)))), λ n. (stays n .0, l .1 n .1 ∙ stays n .1))
 
 pub expire-pending-spec : {M : Type 1} → statement M
 expire-pending-spec =

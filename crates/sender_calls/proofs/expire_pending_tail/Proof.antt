@@ -2,7 +2,8 @@
 use denote.Ref.{now}
 use Rattle.outbound_abandon.specs.LeanExpiry.{leanExpireTail}
 use Rattle.model.specs.Rings.{expirePendingTail}
-use Rattle.sender_head.specs.Lent.{leans-in-lent}
+use Rattle.model.specs.Told.{toldTail}
+use Rattle.sender_head.specs.Lent.{leans-in-or-stays-lent}
 use borrow.Author.Needs.{needs}
 use Rattle.sender_calls.proofs.expire_pending_tail.Statement.{statement}
 use Rattle.sender_calls.proofs.expire_pending_tail.Tie as tie
@@ -33,7 +34,7 @@ returns c =
     let a = c .before .before .before .before .before .before .before .before .args in
     let k = c .before .before .before .before .before .table-words .ensures .0 in
     let m = c .before .before .before .expire-pending-tail in
-    leans-in-lent (a .h) (now (a .cells)) _ k (m .result .queue) (m .last .1 .0) (search needs) (λ room. leanExpireTail room (a .clock)) (λ room. expirePendingTail (a .clock)) (m .ensures)
+    leans-in-or-stays-lent (a .h) (now (a .cells)) _ k (m .result .queue) (m .last .1 .0) (search needs) toldTail (λ room. leanExpireTail room (a .clock)) (λ room. expirePendingTail (a .clock)) (m .ensures)
 
 pub expire-pending-tail-spec : {M : Type 1} → statement M
 expire-pending-tail-spec =

@@ -2,7 +2,8 @@
 use denote.Ref.{now}
 use Rattle.outbound_send.specs.Lean.{leanSend}
 use Rattle.model.specs.Rings.{send}
-use Rattle.sender_head.specs.Lent.{leans-in-lent}
+use Rattle.model.specs.Told.{toldSent}
+use Rattle.sender_head.specs.Lent.{leans-in-or-stays-lent}
 use borrow.Author.Needs.{needs}
 use Rattle.sender_calls.proofs.send.Statement.{statement}
 use Rattle.sender_calls.proofs.send.Tie as tie
@@ -33,7 +34,7 @@ returns c =
     let a = c .before .before .before .before .before .before .before .before .args in
     let k = c .before .before .before .before .before .table-words .ensures .0 in
     let m = c .before .before .before .send-next in
-    leans-in-lent (a .h) (now (a .cells)) _ k (m .result .queue) (m .last .1 .0) (search needs) (λ room. leanSend room (a .clock)) (λ room. send room (a .clock)) (m .ensures)
+    leans-in-or-stays-lent (a .h) (now (a .cells)) _ k (m .result .queue) (m .last .1 .0) (search needs) toldSent (λ room. leanSend room (a .clock)) (λ room. send room (a .clock)) (m .ensures)
 
 pub send-spec : {M : Type 1} → statement M
 send-spec =

@@ -2,7 +2,8 @@
 use denote.Ref.{now}
 use Rattle.outbound_send.specs.Lean.{leanStart}
 use Rattle.model.specs.Rings.{startLifetimes}
-use Rattle.sender_head.specs.Lent.{leans-lent}
+use Rattle.model.specs.Told.{toldDone}
+use Rattle.sender_head.specs.Lent.{leans-or-stays-lent}
 use borrow.Author.Needs.{needs}
 use Rattle.sender_calls.proofs.start_lifetimes.Statement.{statement}
 use Rattle.sender_calls.proofs.start_lifetimes.Tie as tie
@@ -33,7 +34,7 @@ returns c =
     let a = c .before .before .before .before .before .before .before .before .args in
     let k = c .before .before .before .before .before .table-words .ensures .0 in
     let m = c .before .before .before .start-timed-messages in
-    leans-lent (a .h) (now (a .cells)) _ k (m .result .queue) (m .last .1 .0) (search needs) (leanStart (a .clock)) (startLifetimes (a .clock)) (m .ensures)
+    leans-or-stays-lent (a .h) (now (a .cells)) _ k (m .result .queue) (m .last .1 .0) (search needs) toldDone (leanStart (a .clock)) (startLifetimes (a .clock)) (m .ensures)
 
 pub start-lifetimes-spec : {M : Type 1} → statement M
 start-lifetimes-spec =

@@ -1,5 +1,5 @@
 -- The stream found, with less buffered, goes back to its place.
-use mathlib.Core.Path.{sym, ap, _∙_}
+use mathlib.Core.Path.{refl, sym, ap, _∙_}
 use lib.IntN.{ℤ}
 use mir.Facts.{toZ-ofZ}
 use denote.Ref.{now}
@@ -25,7 +25,7 @@ same-length c = search needs
 returns : tie.Need-returns
 returns c =
     let a = c .before .before .before .before .before .args in
-    (release-refused (a .identifier) (senderOf (a .h) (now (a .cells))) (sym (c .enum-told .given .1) ∙ c .before .before .seek .ensures) (a .released), λ k. k)
+    ((release-refused (a .identifier) (senderOf (a .h) (now (a .cells))) (sym (c .enum-told .given .1) ∙ c .before .before .seek .ensures) (a .released), λ k. k), λ n. (refl, refl))
 
 on-buffer-released-requires : tie.Need-on-buffer-released-requires
 on-buffer-released-requires c κs = search needs
@@ -41,7 +41,7 @@ returns-2 c =
     let a = c .before .before .before .before .before .before .before .before .before .before .before .before .args in
     let x = c .before .before .before .before .before .before .before .place .given in
     let r = c .before .before .replace .ensures in
-    (released (a .identifier) (senderOf (a .h) (now (a .cells))) (x .0 .0) (x .0 .1 .0) (sym (x .1) ∙ c .before .before .before .before .before .before .before .before .before .seek .ensures) (a .released) (c .before .before .before .before .before .on-buffer-released .ensures ∙ ap (λ (z : ℤ). freeing z (x .0 .1 .0)) (toZ-ofZ (c .before .before .before .before .before .before .before .before .before .before .before .before .fits .released))) (r .0), r .1)
+    ((released (a .identifier) (senderOf (a .h) (now (a .cells))) (x .0 .0) (x .0 .1 .0) (sym (x .1) ∙ c .before .before .before .before .before .before .before .before .before .seek .ensures) (a .released) (c .before .before .before .before .before .on-buffer-released .ensures ∙ ap (λ (z : ℤ). freeing z (x .0 .1 .0)) (toZ-ofZ (c .before .before .before .before .before .before .before .before .before .before .before .before .fits .released))) (r .0), r .1), λ n. absurd (n refl))
 
 pub release-spec : {M : Type 1} → statement M
 release-spec =

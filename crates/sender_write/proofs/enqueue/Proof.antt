@@ -4,11 +4,12 @@ use Prim.Native.Nat.{ℕ}
 use denote.Ref.{now}
 use lib.ListN.{length}
 use Rattle.model.specs.declared.Message.{Message}
+use Rattle.model.specs.Told.{toldDone}
 use Rattle.rows.specs.Parts.{part}
 use Rattle.outbound_queue.specs.Outbound.{ringRoom}
 use Rattle.outbound_send.specs.Pushes.{pushing}
 use Rattle.sender_head.specs.Whole.{senderOf}
-use Rattle.sender_head.specs.Lent.{lent-room, goes-lent}
+use Rattle.sender_head.specs.Lent.{lent-room, goes-or-stays-lent}
 use borrow.Author.Needs.{needs}
 use Rattle.sender_write.proofs.enqueue.Statement.{statement}
 use Rattle.sender_write.proofs.enqueue.Tie as tie
@@ -44,8 +45,8 @@ returns c =
     let w = c .before .before .before .before .before .before .table-words in
     let ws = now (a .cells) in
     let x = c .before .before .before .before .before .message in
-    let g = goes-lent (a .h) ws (w .result) (w .ensures .0) (m .result .queue) (m .last .1 .0) (search needs) (pushing (ringRoom (part (w .result) (length ws) ws)) (x .result) (a .stream .maximum) (a .offset) (a .length)) (m .ensures) in
-    (g .0 ∙ ap₂ (λ (room : ℕ) (y : Message). pushing room y (a .stream .maximum) (a .offset) (a .length) (senderOf (a .h) ws)) (sym (lent-room (a .h) ws (w .result) (w .ensures .0))) (x .ensures), g .1)
+    let g = goes-or-stays-lent (a .h) ws (w .result) (w .ensures .0) (m .result .queue) (m .last .1 .0) (search needs) toldDone (pushing (ringRoom (part (w .result) (length ws) ws)) (x .result) (a .stream .maximum) (a .offset) (a .length)) (m .ensures) in
+    ((g .0 .0 ∙ ap₂ (λ (room : ℕ) (y : Message). pushing room y (a .stream .maximum) (a .offset) (a .length) (senderOf (a .h) ws)) (sym (lent-room (a .h) ws (w .result) (w .ensures .0))) (x .ensures), g .0 .1), g .1)
 
 pub enqueue-spec : {M : Type 1} → statement M
 enqueue-spec =

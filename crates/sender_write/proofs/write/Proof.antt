@@ -1,6 +1,8 @@
 -- The tests are the model's, in its order; behind the last, what the push answered decides, and the stream that took its own place is the one written to.
-use mathlib.Core.Path.{refl, sym, _∙_}
+use mathlib.Core.Path.{refl, sym, ap, _∙_}
 use denote.Ref.{now}
+use Rattle.model.specs.declared.Done.{Done}
+use Rattle.model.specs.Told.{toldDone}
 use Rattle.sender_head.specs.Whole.{roomIn, senderOf}
 use Rattle.sender_write.specs.Writes.{write-closed, write-long, write-far, write-over, write-refused, write-done}
 use borrow.Author.Needs.{needs}
@@ -25,7 +27,7 @@ returns c =
     let ws = now (a .cells) in
     let e = sym (c .enum-told .given .1) ∙ c .before .before .seek .ensures in
     let t = write-closed (roomIn ws) (a .identifier) (a .protocol) (a .offset) (a .length) (senderOf (a .h) ws) e in
-    (t, λ z. z)
+    ((t, λ z. z), λ n. (refl, refl))
 
 same-length-2 : tie.Need-same-length-2
 same-length-2 c = search needs
@@ -38,7 +40,7 @@ returns-2 c =
     let x = f .found .given in
     let e = sym (x .1) ∙ f .before .before .seek .ensures in
     let t = write-long (roomIn ws) (a .identifier) (a .protocol) (a .offset) (a .length) (senderOf (a .h) ws) (x .0 .0) (x .0 .1 .0) e (c .if1 .taken) in
-    (t, λ z. z)
+    ((t, λ z. z), λ n. (refl, refl))
 
 same-length-3 : tie.Need-same-length-3
 same-length-3 c = search needs
@@ -51,7 +53,7 @@ returns-3 c =
     let x = f .found .given in
     let e = sym (x .1) ∙ f .before .before .seek .ensures in
     let t = write-far (roomIn ws) (a .identifier) (a .protocol) (a .offset) (a .length) (senderOf (a .h) ws) (x .0 .0) (x .0 .1 .0) e (c .before .if1 .left) (c .if2 .taken) in
-    (t, λ z. z)
+    ((t, λ z. z), λ n. (refl, refl))
 
 cast-bytes : tie.Need-cast-bytes
 cast-bytes c = search needs
@@ -70,7 +72,7 @@ returns-4 c =
     let x = f .found .given in
     let e = sym (x .1) ∙ f .before .before .seek .ensures in
     let t = write-over (roomIn ws) (a .identifier) (a .protocol) (a .offset) (a .length) (senderOf (a .h) ws) (x .0 .0) (x .0 .1 .0) e (c .before .before .before .if1 .left) (c .before .before .if2 .left) (c .before .would-overflow .ensures) (c .if3 .taken) in
-    (t, λ z. z)
+    ((t, λ z. z), λ n. (refl, refl))
 
 enqueue-requires : tie.Need-enqueue-requires
 enqueue-requires c κs = search needs
@@ -89,8 +91,8 @@ returns-5 c =
     let ws = now (a .cells) in
     let x = f .found .given in
     let e = sym (x .1) ∙ f .before .before .seek .ensures in
-    let t = write-refused (roomIn ws) (a .identifier) (a .protocol) (a .offset) (a .length) (senderOf (a .h) ws) (x .0 .0) (x .0 .1 .0) e (g .before .before .before .before .before .if1 .left) (g .before .before .before .before .if2 .left) (g .before .before .before .would-overflow .ensures) (g .before .before .if3 .left) (a .h .queue .«next_message_id») (g .enqueue .ensures .0) (c .before .answer .given .1) in
-    (t, g .enqueue .ensures .1)
+    let t = write-refused (roomIn ws) (a .identifier) (a .protocol) (a .offset) (a .length) (senderOf (a .h) ws) (x .0 .0) (x .0 .1 .0) e (g .before .before .before .before .before .if1 .left) (g .before .before .before .before .if2 .left) (g .before .before .before .would-overflow .ensures) (g .before .before .if3 .left) (a .h .queue .«next_message_id») (g .enqueue .ensures .0 .0) (c .before .answer .given .1) in
+    ((t, g .enqueue .ensures .0 .1), λ n. g .enqueue .ensures .1 (λ d. n (sym (ap (λ (x : Done). toldDone x .number) (c .before .answer .given .1)) ∙ d)))
 
 enum-told-2 : tie.Need-enum-told-2
 enum-told-2 c = search needs
@@ -112,8 +114,8 @@ returns-6 c =
     let ws = now (a .cells) in
     let x = f .found .given in
     let e = sym (x .1) ∙ f .before .before .seek .ensures in
-    let t = write-done (roomIn ws) (a .identifier) (a .protocol) (a .offset) (a .length) (senderOf (a .h) ws) (x .0 .0) (x .0 .1 .0) e (g .before .before .before .before .before .if1 .left) (g .before .before .before .before .if2 .left) (g .before .before .before .would-overflow .ensures) (g .before .before .if3 .left) (a .h .queue .«next_message_id») (g .enqueue .ensures .0) (c .before .before .before .before .before .before .enum-told2 .given .1) (c .before .before .before .before .before .written .ensures) (c .before .before .replace .ensures .0) refl in
-    (t, λ z. c .before .before .replace .ensures .1 (g .enqueue .ensures .1 z))
+    let t = write-done (roomIn ws) (a .identifier) (a .protocol) (a .offset) (a .length) (senderOf (a .h) ws) (x .0 .0) (x .0 .1 .0) e (g .before .before .before .before .before .if1 .left) (g .before .before .before .before .if2 .left) (g .before .before .before .would-overflow .ensures) (g .before .before .if3 .left) (a .h .queue .«next_message_id») (g .enqueue .ensures .0 .0) (c .before .before .before .before .before .before .enum-told2 .given .1) (c .before .before .before .before .before .written .ensures) (c .before .before .replace .ensures .0) refl in
+    ((t, λ z. c .before .before .replace .ensures .1 (g .enqueue .ensures .0 .1 z)), λ n. absurd (n refl))
 
 pub write-spec : {M : Type 1} → statement M
 write-spec =

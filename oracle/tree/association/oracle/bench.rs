@@ -48,20 +48,22 @@ impl BenchSender {
 
 impl Oracle {
     pub fn bench_sender(payload: u32, timed_ms: u32) -> BenchSender {
-        let mut a = Association::new(4_294_967_000, 0, 262_144);
-        for sid in 1..=2u16 {
-            let mut s = StreamState::new(Side::Client, sid, payload, 65536, Ppi::Binary);
-            if timed_ms > 0 {
-                s.reliability_type = ReliabilityType::Timed;
-                s.reliability_value = timed_ms;
-            }
-            a.streams.insert(sid, s);
-        }
-        BenchSender { base: Instant::now(), a }
+        let mut sender = BenchSender { base: Instant::now(), a: Association::new(4_294_967_000, 0, 262_144) };
+        (1..=2).for_each(|sid| sender.open(sid, payload, timed_ms));
+        sender
     }
 }
 
 impl BenchSender {
+    /// A stream: reliable where the milliseconds are 0.
+    pub fn open(&mut self, sid: u16, payload: u32, timed_ms: u32) {
+        let mut s = StreamState::new(Side::Client, sid, payload, 65536, Ppi::Binary);
+        if timed_ms > 0 {
+            s.reliability_type = ReliabilityType::Timed;
+            s.reliability_value = timed_ms;
+        }
+        self.a.streams.insert(sid, s);
+    }
     /// The whole write of stream.rs (it copies the bytes once, into a fresh allocation).
     #[inline(never)]
     pub fn write(&mut self, sid: u16, len: usize) -> Option<usize> {
@@ -118,6 +120,17 @@ impl BenchSender {
     pub fn mark_all(&mut self) {
         self.a.outbound.mark_all_to_retransmit()
     }
+    pub fn is_marked(&self, tsn: u32) -> bool {
+        self.a.outbound.get(tsn).is_some_and(|c| c.retransmit)
+    }
+    #[inline(never)]
+    pub fn get(&self, tsn: u32) -> Option<BenchChunk> {
+        self.a.outbound.get(tsn).map(told)
+    }
+    #[inline(never)]
+    pub fn has_pending(&self, sid: u16) -> bool {
+        self.a.outbound.pending_contains_stream(sid)
+    }
     #[inline(never)]
     pub fn has(&self, sid: u16) -> bool {
         self.a.outbound.contains_stream(sid)
@@ -129,9 +142,11 @@ impl BenchSender {
     pub fn oldest(&self) -> Option<u32> {
         self.a.outbound.probe_oldest()
     }
+    #[inline(never)]
     pub fn flight(&self) -> usize {
         self.a.outbound.inflight_len()
     }
+    #[inline(never)]
     pub fn pending(&self) -> usize {
         self.a.outbound.pending_len()
     }

@@ -11,7 +11,7 @@ use Rattle.outbound_send.proofs.push.push.Tie as tie
 returns : tie.Need-returns
 returns c =
     let a = c .before .before .args in
-    (λ ts. push-far (ringRoom (now (a .cells))) (a .message) (a .maximum) (a .offset) (a .length) (senderOf ts (a .q) (now (a .cells))) (c .if1 .taken), λ k. k)
+    ((λ ts. push-far (ringRoom (now (a .cells))) (a .message) (a .maximum) (a .offset) (a .length) (senderOf ts (a .q) (now (a .cells))) (c .if1 .taken), λ k. k), λ n. (refl, refl))
 
 fragments-requires : tie.Need-fragments-requires
 fragments-requires c κs = search needs
@@ -25,8 +25,8 @@ same-length c = search needs
 returns-2 : tie.Need-returns-2
 returns-2 c =
     let a = c .before .before .before .before .before .before .args in (
-      λ ts. push-full (ringRoom (now (a .cells))) (a .message) (a .maximum) (a .offset) (a .length) (senderOf ts (a .q) (now (a .cells))) (c .before .before .before .before .if1 .left) (c .before .before .before .fragments .ensures .0) (c .before .lacks-room .ensures) (c .if2 .taken),
-      λ k. k,
+      (λ ts. push-full (ringRoom (now (a .cells))) (a .message) (a .maximum) (a .offset) (a .length) (senderOf ts (a .q) (now (a .cells))) (c .before .before .before .before .if1 .left) (c .before .before .before .fragments .ensures .0) (c .before .lacks-room .ensures) (c .if2 .taken), λ k. k),
+      λ n. (refl, refl),
     )
 
 is-spent-requires : tie.Need-is-spent-requires
@@ -38,8 +38,8 @@ same-length-2 c = search needs
 returns-3 : tie.Need-returns-3
 returns-3 c =
     let a = c .before .before .before .before .before .before .before .before .args in (
-      λ ts. push-spent (ringRoom (now (a .cells))) (a .message) (a .maximum) (a .offset) (a .length) (senderOf ts (a .q) (now (a .cells))) (c .before .before .before .before .before .before .if1 .left) (c .before .before .before .before .before .fragments .ensures .0) (c .before .before .before .lacks-room .ensures) (c .before .before .if2 .left) (c .before .is-spent .ensures .0) (c .if3 .taken),
-      λ k. k,
+      (λ ts. push-spent (ringRoom (now (a .cells))) (a .message) (a .maximum) (a .offset) (a .length) (senderOf ts (a .q) (now (a .cells))) (c .before .before .before .before .before .before .if1 .left) (c .before .before .before .before .before .fragments .ensures .0) (c .before .before .before .lacks-room .ensures) (c .before .before .if2 .left) (c .before .is-spent .ensures .0) (c .if3 .taken), λ k. k),
+      λ n. (refl, refl),
     )
 
 numbered-requires : tie.Need-numbered-requires
@@ -55,8 +55,8 @@ returns-4 : tie.Need-returns-4
 returns-4 c =
     let a = c .before .before .before .before .before .before .before .before .before .before .before .before .before .before .before .args in
     let j = c .before .before .before .before .add-fragments .ensures in (
-      λ ts. push-none (ringRoom (now (a .cells))) (a .message) (a .maximum) (a .offset) (a .length) (senderOf ts (a .q) (now (a .cells))) (c .before .before .before .before .before .before .before .before .before .before .before .before .before .if1 .left) (c .before .before .before .before .before .before .before .before .before .before .before .before .fragments .ensures .0) (c .before .before .before .before .before .before .before .before .before .before .lacks-room .ensures) (c .before .before .before .before .before .before .before .before .before .if2 .left) (c .before .before .before .before .before .before .before .before .is-spent .ensures .0) (c .before .before .before .before .before .before .before .if3 .left) (c .before .before .before .before .before .before .numbered .ensures) (j .0 .0 ts) (c .if4 .taken),
-      j .0 .1,
+      (λ ts. push-none (ringRoom (now (a .cells))) (a .message) (a .maximum) (a .offset) (a .length) (senderOf ts (a .q) (now (a .cells))) (c .before .before .before .before .before .before .before .before .before .before .before .before .before .if1 .left) (c .before .before .before .before .before .before .before .before .before .before .before .before .fragments .ensures .0) (c .before .before .before .before .before .before .before .before .before .before .lacks-room .ensures) (c .before .before .before .before .before .before .before .before .before .if2 .left) (c .before .before .before .before .before .before .before .before .is-spent .ensures .0) (c .before .before .before .before .before .before .before .if3 .left) (c .before .before .before .before .before .before .numbered .ensures) (j .0 .0 ts) (c .if4 .taken), j .0 .1),
+      λ n. absurd (n refl),
     )
 
 add-next : tie.Need-add-next
@@ -69,8 +69,8 @@ returns-5 : tie.Need-returns-5
 returns-5 c =
     let a = c .before .before .before .before .before .before .before .before .before .before .before .before .before .before .before .before .before .args in
     let j = c .before .before .before .before .before .before .add-fragments .ensures in (
-      λ ts. push-some (ringRoom (now (a .cells))) (a .message) (a .maximum) (a .offset) (a .length) (senderOf ts (a .q) (now (a .cells))) (c .before .before .before .before .before .before .before .before .before .before .before .before .before .before .before .if1 .left) (c .before .before .before .before .before .before .before .before .before .before .before .before .before .before .fragments .ensures .0) (c .before .before .before .before .before .before .before .before .before .before .before .before .lacks-room .ensures) (c .before .before .before .before .before .before .before .before .before .before .before .if2 .left) (c .before .before .before .before .before .before .before .before .before .before .is-spent .ensures .0) (c .before .before .before .before .before .before .before .before .before .if3 .left) (c .before .before .before .before .before .before .before .before .numbered .ensures) (j .0 .0 ts) (c .before .before .if4 .left) refl,
-      j .0 .1,
+      (λ ts. push-some (ringRoom (now (a .cells))) (a .message) (a .maximum) (a .offset) (a .length) (senderOf ts (a .q) (now (a .cells))) (c .before .before .before .before .before .before .before .before .before .before .before .before .before .before .before .if1 .left) (c .before .before .before .before .before .before .before .before .before .before .before .before .before .before .fragments .ensures .0) (c .before .before .before .before .before .before .before .before .before .before .before .before .lacks-room .ensures) (c .before .before .before .before .before .before .before .before .before .before .before .if2 .left) (c .before .before .before .before .before .before .before .before .before .before .is-spent .ensures .0) (c .before .before .before .before .before .before .before .before .before .if3 .left) (c .before .before .before .before .before .before .before .before .numbered .ensures) (j .0 .0 ts) (c .before .before .if4 .left) refl, j .0 .1),
+      λ n. absurd (n refl),
     )
 
 pub push-spec : {M : Type 1} → statement M

@@ -6,7 +6,7 @@ use Rattle.model.specs.Rings.{expirePendingTail}
 use Rattle.outbound_abandon.specs.LeanExpiry.{leanExpireTail}
 use Rattle.model.specs.Told.{toldTail}
 use Rattle.sender.specs.Sizes.{sizes}
-use Rattle.sender.specs.Value.{stateOf, does-at, with-told-lean}
+use Rattle.sender.specs.Value.{stateOf, does-at, with-told-lean, stays}
 use borrow.Author.Needs.{needs}
 use Rattle.sender.proofs.messages.expire_pending_tail.Statement.{statement}
 use Rattle.sender.proofs.messages.expire_pending_tail.Tie as tie
@@ -22,7 +22,7 @@ returns c =
     let a = c .before .before .before .before .before .args in
     let m = c .before .before .expire-pending-tail in
     let e : length (a .s .cells) ≡ 6656 = search needs in
-    with-told-lean toldTail (does-at (λ (room : Room). leanExpireTail room (a .clock) (stateOf (a .s))) (λ (room : Room). expirePendingTail (a .clock) (stateOf (a .s))) (sizes (a .s .cells) e) (m .ensures .0), m .ensures .1)
+    (with-told-lean toldTail (does-at (λ (room : Room). leanExpireTail room (a .clock) (stateOf (a .s))) (λ (room : Room). expirePendingTail (a .clock) (stateOf (a .s))) (sizes (a .s .cells) e) (m .ensures .0 .0), m .ensures .0 .1), λ n. stays (m .ensures .1 n))
 
 pub expire-pending-tail-spec : {M : Type 1} → statement M
 expire-pending-tail-spec =

@@ -9,7 +9,7 @@ use Rattle.cells.specs.Slots.{roomOf}
 use Rattle.rows.specs.Joins.{pushed}
 use Rattle.stream_table.specs.Tables.{tableOf}
 use Rattle.sender_head.specs.Whole.{Halves, parts-are}
-use Rattle.sender_head.specs.Tables.{table-changed, counted-still}
+use Rattle.sender_head.specs.Tables.{table-changed, counted-still, table-stays}
 use borrow.Author.Needs.{needs}
 use Rattle.sender_head.proofs.table.join.Statement.{statement}
 use Rattle.sender_head.proofs.table.join.Tie as tie
@@ -43,6 +43,7 @@ returns c =
     let o = m .result .count in (
       (table-changed (a .h) ws p (k .result) (k .ensures .0) (search needs) o (λ (w : List ℕ). pushed (roomOf w) (tableOf n w) (a .stream)) (m .ensures .0), counted-still (a .h) ws p (k .result) (k .ensures .0) (search needs) o),
       m .ensures .1 ∙ ap (λ (x : Halves). ltb (length (tableOf n (x .table))) (roomOf (x .table))) (parts-are ws (k .result) (k .ensures .0)),
+      λ full. table-stays (a .h) ws p (k .result) (k .ensures .0) (search needs) o (m .ensures .2 full),
     )
 
 pub join-spec : {M : Type 1} → statement M
