@@ -21,10 +21,12 @@ pub const CHANNELS: [Channel; 3] = [
 ];
 
 pub const PAYLOAD: u32 = 1200;
-/// The link takes one chunk in this many milliseconds.
+/// The host sends once in this many milliseconds: as many chunks as the windows allow.
 pub const SLOT: u64 = 4;
-/// So many chunks may be out and unanswered.
-const WINDOW: usize = 22;
+/// The editor takes so many chunks that are not yet acknowledged, and always has room for them.
+pub const RECEIVER_WINDOW: usize = 14;
+/// The congestion window at the beginning, and the least that a loss leaves of it.
+pub const FIRST_WINDOW: usize = 4;
 
 /// How a message ended, for the host.
 #[derive(Clone, Copy, Debug, PartialEq, Eq)]
@@ -47,6 +49,8 @@ pub struct Message {
     pub length: u64,
     pub written: u64,
     pub deadline: Option<u64>,
+    /// Its first TSN, counted from the session's first; and how many of its fragments were sent, and acknowledged.
+    pub first: Option<u32>,
     pub sent: usize,
     pub acknowledged: usize,
     pub end: End,
@@ -74,12 +78,46 @@ pub struct Event {
     pub at: u32,
     pub mark: Mark,
     pub stream: u16,
+    /// What was sent here is lost on the link. The host does not know it.
+    pub lost: bool,
+}
+
+/// The congestion window in chunks, as RFC 9260 has it in bytes (section 7.2): it grows by what is acknowledged up to a threshold, beyond it by one
+/// chunk in a round trip, is halved by a loss, and is one chunk after a timeout.
+struct Congestion {
+    window: usize,
+    threshold: usize,
+    acknowledged: usize,
+    /// The first TSN that was not yet sent when a loss was last heard of: one round trip halves the window once.
+    halved_before: Option<u32>,
+}
+
+impl Congestion {
+    fn acknowledged(&mut self) {
+        self.acknowledged += 1;
+        if self.window < self.threshold || self.acknowledged >= self.window {
+            (self.window, self.acknowledged) = ((self.window + 1).min(RECEIVER_WINDOW), 0);
+        }
+    }
+
+    fn lost(&mut self, tsn: u32, next_tsn: u32) {
+        if self.halved_before.is_none_or(|before| tsn.wrapping_sub(before) < 1 << 31) {
+            self.threshold = (self.window / 2).max(FIRST_WINDOW);
+            (self.window, self.acknowledged, self.halved_before) = (self.threshold, 0, Some(next_tsn));
+        }
+    }
+
+    fn timed_out(&mut self, next_tsn: u32) {
+        self.threshold = (self.window / 2).max(FIRST_WINDOW);
+        (self.window, self.acknowledged, self.halved_before) = (1, 0, Some(next_tsn));
+    }
 }
 
 pub struct Host {
     pub sender: Sender,
     timers: TimerTable,
     rto: RtoManager,
+    congestion: Congestion,
     pub first_tsn: u32,
     /// The oldest TSN that is still in the flight.
     oldest: u32,
@@ -91,7 +129,7 @@ pub struct Host {
     again: VecDeque<u32>,
     missing: BTreeMap<u32, u32>,
     twice: BTreeSet<u32>,
-    forwarded: Option<(u64, u32)>,
+    forwarded: Option<u32>,
     pub forwards: usize,
     pub timeouts: usize,
 }
@@ -108,6 +146,7 @@ impl Host {
             sender,
             timers: TimerTable::new(None, None, 400)?,
             rto: RtoManager::new(100, 60, 400)?,
+            congestion: Congestion { window: FIRST_WINDOW, threshold: RECEIVER_WINDOW, acknowledged: 0, halved_before: None },
             first_tsn,
             oldest: first_tsn,
             store: Vec::new(),
@@ -122,9 +161,9 @@ impl Host {
         })
     }
 
-    fn mark(&mut self, time: u64, chunk: &Chunk, mark: Mark) {
+    fn mark(&mut self, time: u64, chunk: &Chunk, mark: Mark, lost: bool) {
         let at = chunk.tsn.wrapping_sub(self.first_tsn);
-        self.events.push(Event { time, at, mark, stream: chunk.stream_identifier });
+        self.events.push(Event { time, at, mark, stream: chunk.stream_identifier, lost });
     }
 
     /// The TSNs in flight, oldest first.
@@ -143,10 +182,11 @@ impl Host {
         let (offset, length) = (self.store.len() as u64, bytes.len() as u64);
         self.sender.write(stream, PayloadProtocolIdentifier::BINARY, offset, length)?;
         self.store.extend_from_slice(bytes);
-        self.sender.start_timed_messages(now)?;
+        // The step of this same millisecond starts it.
         let lifetime = CHANNELS.iter().find(|channel| channel.stream == stream).and_then(|channel| channel.lifetime);
         let deadline = lifetime.map(|ms| now + u64::from(ms));
-        let message = Message { stream, version, offset, length, written: now, deadline, sent: 0, acknowledged: 0, end: End::Open, ended: now };
+        let message =
+            Message { stream, version, offset, length, written: now, deadline, first: None, sent: 0, acknowledged: 0, end: End::Open, ended: now };
         self.messages.insert(number, message);
         Ok(())
     }
@@ -171,14 +211,14 @@ impl Host {
         };
         for chunk in entries.iter().filter(|chunk| !chunk.acked) {
             let mark = if chunk.is_terminator() { Mark::Terminator } else { Mark::Abandoned };
-            self.mark(now, chunk, mark);
+            self.mark(now, chunk, mark, false);
         }
         let message = self.messages.get_mut(&number).expect("it is known");
         (message.end, message.ended) = (end, now);
     }
 
-    /// Gives up all that has expired. Called before anything is sent, so nothing leaves at or after its deadline.
-    fn expire(&mut self, now: u64) -> Result<(), Refusal> {
+    /// Gives up what has expired in flight.
+    fn expire_inflight(&mut self, now: u64) -> Result<(), Refusal> {
         let mut list = [0; FLIGHT_ROOM];
         for &tsn in self.sender.expired_inflight(now, &mut list)? {
             let Some(chunk) = self.sender.get(tsn).filter(|chunk| !chunk.abandoned) else { continue };
@@ -187,6 +227,11 @@ impl Host {
             self.release(gone.stream_identifier, gone.bytes)?;
             self.abandoned(now, chunk.message_id, next);
         }
+        Ok(())
+    }
+
+    /// Gives up what has expired at the head of what is pending, until nothing there has.
+    fn expire_pending(&mut self, now: u64) -> Result<(), Refusal> {
         loop {
             let next = self.sender.next_tsn();
             let head = self.sender.peek_pending().map(|chunk| chunk.message_id);
@@ -208,9 +253,8 @@ impl Host {
     fn transmit(&mut self, now: u64, link: &mut Link, chunk: &Chunk, mark: Mark) {
         assert!(chunk.deadline.is_none_or(|deadline| now < deadline), "nothing leaves at or after its deadline");
         assert!(!chunk.abandoned && !chunk.is_terminator(), "nothing abandoned leaves");
-        self.mark(now, chunk, mark);
         let from = chunk.offset as usize;
-        link.send(
+        let lost = link.send(
             now,
             Packet::Data {
                 tsn: chunk.tsn,
@@ -222,60 +266,79 @@ impl Host {
                 bytes: self.store[from..from + chunk.length as usize].to_vec(),
             },
         );
+        self.mark(now, chunk, mark, lost);
     }
 
-    /// One millisecond of the host.
+    /// One millisecond of the host: the loop of docs/HOST.md, in its order.
     pub fn step(&mut self, now: u64, link: &mut Link) -> Result<(), Refusal> {
-        self.expire(now)?;
-        if self.timers.next_timeout().is_some_and(|due| due <= now) && self.timers.is_expired(Timer::T3RTX, now)?.expired {
+        self.sender.start_timed_messages(now)?;
+        self.expire_inflight(now)?;
+        let fired = self.timers.next_timeout().is_some_and(|due| due <= now) && self.timers.is_expired(Timer::T3RTX, now)?.expired;
+        if fired {
             self.timeouts += 1;
+            self.congestion.timed_out(self.sender.next_tsn());
             self.sender.mark_all_to_retransmit();
             self.again = self.flight().filter(|chunk| chunk.retransmit).map(|chunk| chunk.tsn).collect();
             self.timers.start(Timer::T3RTX, now, self.rto.get_rto())?;
         }
-        self.forward(now, link);
-        if now.is_multiple_of(SLOT) {
-            self.send(now, link)?;
+        if now % SLOT == 0 {
+            self.send_again(now, link);
+            self.send_new(now, link)?;
         }
-        match self.sender.earliest_outstanding_tsn() {
-            Some(_) => self.timers.restart_if_stale(Timer::T3RTX, now, self.rto.get_rto()),
-            None => {
-                self.timers.stop(Timer::T3RTX);
-                Ok(())
-            }
+        self.forward(now, link, fired);
+        // Also while all that is in flight is abandoned: the forward point may be lost.
+        if self.sender.inflight_len() > 0 {
+            return self.timers.restart_if_stale(Timer::T3RTX, now, self.rto.get_rto());
         }
-    }
-
-    fn send(&mut self, now: u64, link: &mut Link) -> Result<(), Refusal> {
-        while let Some(tsn) = self.again.pop_front() {
-            if let Some(chunk) = self.sender.get(tsn).filter(|chunk| !chunk.acked && !chunk.abandoned) {
-                self.twice.insert(tsn);
-                self.transmit(now, link, &chunk, Mark::Retransmitted);
-                return Ok(());
-            }
-        }
-        if self.flight().filter(|chunk| !chunk.acked && !chunk.abandoned).count() >= WINDOW {
-            return Ok(());
-        }
-        if let Some(chunk) = self.sender.send_next(now)? {
-            self.messages.get_mut(&chunk.message_id).expect("it is known").sent += 1;
-            self.transmit(now, link, &chunk, Mark::Sent);
-        }
+        self.timers.stop(Timer::T3RTX);
         Ok(())
     }
 
-    /// The forward point: what is abandoned at the front of the flight need not be waited for. It is told again until it is acknowledged.
-    fn forward(&mut self, now: u64, link: &mut Link) {
+    /// Whether one more chunk may be out and unanswered. What waits to be sent again is taken as lost, and so is not out.
+    fn window_has_room(&self) -> bool {
+        let out = self.flight().filter(|chunk| !chunk.acked && !chunk.abandoned && !self.again.contains(&chunk.tsn)).count();
+        out < self.congestion.window.min(RECEIVER_WINDOW)
+    }
+
+    fn send_again(&mut self, now: u64, link: &mut Link) {
+        while self.window_has_room() {
+            let Some(tsn) = self.again.pop_front() else { return };
+            if let Some(chunk) = self.sender.get(tsn).filter(|chunk| !chunk.acked && !chunk.abandoned) {
+                self.twice.insert(tsn);
+                self.transmit(now, link, &chunk, Mark::Retransmitted);
+            }
+        }
+    }
+
+    /// As many new chunks as the windows allow. Before each of them all that is due at the head goes: behind a chunk that was sent, another message
+    /// may be there.
+    fn send_new(&mut self, now: u64, link: &mut Link) -> Result<(), Refusal> {
+        loop {
+            self.expire_pending(now)?;
+            if !self.window_has_room() {
+                return Ok(());
+            }
+            let Some(chunk) = self.sender.send_next(now)? else { return Ok(()) };
+            let message = self.messages.get_mut(&chunk.message_id).expect("it is known");
+            message.first.get_or_insert(chunk.tsn.wrapping_sub(self.first_tsn));
+            message.sent += 1;
+            self.transmit(now, link, &chunk, Mark::Sent);
+        }
+    }
+
+    /// The forward point: what is abandoned at the front of the flight need not be waited for. It is told when it is a new one, and again each time
+    /// the timer fires.
+    fn forward(&mut self, now: u64, link: &mut Link, fired: bool) {
         let front: Vec<Chunk> = self.flight().take_while(|chunk| chunk.abandoned).collect();
         let Some(last) = front.last() else { return };
-        if self.forwarded.is_some_and(|(when, tsn)| tsn == last.tsn && now < when + 3 * SLOT) {
+        if self.forwarded == Some(last.tsn) && !fired {
             return;
         }
         let mut streams = BTreeMap::new();
         for chunk in front.iter().filter(|chunk| !chunk.unordered) {
             streams.insert(chunk.stream_identifier, chunk.stream_sequence_number);
         }
-        self.forwarded = Some((now, last.tsn));
+        self.forwarded = Some(last.tsn);
         self.forwards += 1;
         link.send(now, Packet::Forward { tsn: last.tsn, streams: streams.into_iter().collect() });
     }
@@ -288,11 +351,12 @@ impl Host {
             return Ok(());
         }
         self.release(chunk.stream_identifier, bytes)?;
-        self.mark(now, &chunk, Mark::Acknowledged);
+        self.mark(now, &chunk, Mark::Acknowledged, false);
         if !self.twice.contains(&tsn) {
             self.rto.set_new_rtt(now - chunk.since.expect("it was sent"))?;
         }
         self.timers.stop(Timer::T3RTX);
+        self.congestion.acknowledged();
         let message = self.messages.get_mut(&chunk.message_id).expect("it is known");
         message.acknowledged += 1;
         if message.acknowledged == message.fragments() {
@@ -321,6 +385,7 @@ impl Host {
             *count += 1;
             if *count == 3 && !self.again.contains(&tsn) {
                 self.again.push_back(tsn);
+                self.congestion.lost(tsn, self.sender.next_tsn());
             }
         }
         Ok(())

@@ -26,33 +26,39 @@ pub enum Packet {
     },
 }
 
-/// Longest and shortest way, in milliseconds.
+/// Shortest and longest way, in milliseconds; and the usual one, which all packets take but so many in a hundred. These come before or after
+/// others that set out with them.
 pub const DELAY: (u64, u64) = (15, 25);
-pub const LOSS_PERCENT: u64 = 7;
+pub const USUAL_DELAY: u64 = 18;
+pub const STRAY_PERCENT: u64 = 20;
 /// Nothing that sets out in this time arrives.
-pub const DOWN: (u64, u64) = (460, 570);
+pub const DOWN: (u64, u64) = (500, 560);
 
 pub struct Link {
     rng: Rng,
+    /// In a hundred.
+    loss: u64,
     under_way: Vec<(u64, Packet)>,
-    pub carried: usize,
-    pub lost: usize,
+    /// When what was lost set out.
+    pub losses: Vec<u64>,
 }
 
 impl Link {
-    pub fn new(seed: u64) -> Link {
-        Link { rng: Rng::new(seed), under_way: Vec::new(), carried: 0, lost: 0 }
+    pub fn new(seed: u64, loss: u64) -> Link {
+        Link { rng: Rng::new(seed), loss, under_way: Vec::new(), losses: Vec::new() }
     }
 
-    pub fn send(&mut self, now: u64, packet: Packet) {
-        let delay = self.rng.within(DELAY.0, DELAY.1);
-        let lost = self.rng.percent(LOSS_PERCENT) || (DOWN.0..DOWN.1).contains(&now);
+    /// Answers whether the packet is lost. No end of the link may act on that: it is for the drawing.
+    pub fn send(&mut self, now: u64, packet: Packet) -> bool {
+        let strays = self.rng.percent(STRAY_PERCENT);
+        let delay = if strays { self.rng.within(DELAY.0, DELAY.1) } else { USUAL_DELAY };
+        let lost = self.rng.percent(self.loss) || (DOWN.0..DOWN.1).contains(&now);
         if lost {
-            self.lost += 1;
+            self.losses.push(now);
         } else {
-            self.carried += 1;
             self.under_way.push((now + delay, packet));
         }
+        lost
     }
 
     /// What arrives now, in the order of setting out.
