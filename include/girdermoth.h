@@ -47,7 +47,7 @@ typedef struct {
     uint8_t selected, unordered_is_selected;
     uint64_t flight_start, flight_len;
     uint32_t oldest;
-    uint64_t flight_bytes, next_message, next_unstarted, streams;
+    uint64_t flight_bytes, due, next_message, next_unstarted, streams;
 } girdermoth_head;
 
 typedef struct {
@@ -86,8 +86,8 @@ typedef struct {
     uint8_t refusal;
 } girdermoth_counts;
 
-GIRDERMOTH_ASSERT(sizeof(girdermoth_head) == 104 && offsetof(girdermoth_head, selected) == 40 && offsetof(girdermoth_head, flight_start) == 48 && offsetof(girdermoth_head, oldest) == 64 && offsetof(girdermoth_head, streams) == 96, "head");
-GIRDERMOTH_ASSERT(sizeof(girdermoth_sender) == 53352 && offsetof(girdermoth_sender, cells) == 104, "sender");
+GIRDERMOTH_ASSERT(sizeof(girdermoth_head) == 112 && offsetof(girdermoth_head, selected) == 40 && offsetof(girdermoth_head, flight_start) == 48 && offsetof(girdermoth_head, oldest) == 64 && offsetof(girdermoth_head, streams) == 104, "head");
+GIRDERMOTH_ASSERT(sizeof(girdermoth_sender) == 53360 && offsetof(girdermoth_sender, cells) == 112, "sender");
 GIRDERMOTH_ASSERT(sizeof(girdermoth_reply) == 16 && offsetof(girdermoth_reply, yes) == 9, "reply");
 GIRDERMOTH_ASSERT(sizeof(girdermoth_freed) == 24 && offsetof(girdermoth_freed, unordered) == 20, "freed");
 GIRDERMOTH_ASSERT(sizeof(girdermoth_fragment) == 72 && offsetof(girdermoth_fragment, retransmit) == 66, "fragment");
@@ -140,8 +140,8 @@ girdermoth_reply girdermoth_acknowledge(girdermoth_sender *s, uint32_t tsn);
 girdermoth_fragment girdermoth_pop(girdermoth_sender *s, uint32_t tsn);
 // Every entry that is neither acknowledged nor abandoned is to be retransmitted. Never refused.
 girdermoth_reply girdermoth_mark_all(girdermoth_sender *s);
-// The TSNs in flight whose message has expired, oldest first, in front of the lent list of `room` numbers; `value` is how many. The sender
-// and the rest of the list stay. Refused: BEYOND_LIMIT, LIST_SHORT.
+// The TSNs in flight whose message has expired, oldest first, in front of the lent list of `room` numbers; `value` is how many. What is
+// pending and in flight and the rest of the list stay. Refused: BEYOND_LIMIT, LIST_SHORT.
 girdermoth_reply girdermoth_expired_inflight(girdermoth_sender *s, uint32_t *list, size_t room, uint64_t clock);
 
 // ---- questions. None is refused but where it says so

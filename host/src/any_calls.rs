@@ -129,6 +129,7 @@ impl Head {
             flight_len: word(),
             oldest: word() as u32,
             flight_bytes: word(),
+            due: word(),
             next_message: word(),
             next_unstarted: word(),
             streams: word(),

@@ -46,7 +46,7 @@ pub struct DataChannelStats {
 
 /// The sender of an association: its streams, what is pending, and what is in flight.
 ///
-/// It owns one block of 53,352 bytes, and no call allocates another. Questions take `&self` and only read, so a sender may be shared between
+/// It owns one block of 53,360 bytes, and no call allocates another. Questions take `&self` and only read, so a sender may be shared between
 /// threads for them; all else takes `&mut self`.
 #[derive(Clone)]
 pub struct Sender(Box<sys::Sender>);

@@ -24,6 +24,7 @@ pub(crate) struct Head {
     pub(crate) flight_len: u64,
     pub(crate) oldest: u32,
     pub(crate) flight_bytes: u64,
+    pub(crate) due: u64,
     pub(crate) next_message: u64,
     pub(crate) next_unstarted: u64,
     pub(crate) streams: u64,
@@ -51,6 +52,7 @@ impl Sender {
             flight_len: 0,
             oldest: 0,
             flight_bytes: 0,
+            due: 0,
             next_message: 0,
             next_unstarted: 0,
             streams: 0,
@@ -185,9 +187,9 @@ macro_rules! layout {
         };
     };
 }
-layout!(Head: 104, 8; unordered_start 0, unordered_len 8, ordered_start 16, ordered_len 24, pending_bytes 32, selected 40, unordered_is_selected 41,
-    flight_start 48, flight_len 56, oldest 64, flight_bytes 72, next_message 80, next_unstarted 88, streams 96);
-layout!(Sender: 53352, 8; head 0, cells 104);
+layout!(Head: 112, 8; unordered_start 0, unordered_len 8, ordered_start 16, ordered_len 24, pending_bytes 32, selected 40, unordered_is_selected 41,
+    flight_start 48, flight_len 56, oldest 64, flight_bytes 72, due 80, next_message 88, next_unstarted 96, streams 104);
+layout!(Sender: 53360, 8; head 0, cells 112);
 layout!(Reply: 16, 8; value 0, refusal 8, yes 9);
 layout!(Freed: 24, 8; number 0, bytes 8, stream 16, refusal 18, some 19, unordered 20);
 layout!(Fragment: 72, 8; number 0, offset 8, deadline 16, since 24, tsn 32, length 36, protocol 40, value 44, nsent 48, stream 52, ssn 54, kind 56,

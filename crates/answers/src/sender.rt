@@ -205,7 +205,8 @@ fn listed(
     list: &mut [u32],
 ) -> usize {
     let found = sender_calls::flight::expired_inflight(h, cells, clock, list);
-    match found {
+    let answer = found.answer;
+    match answer {
         Listed::Count(count) => {
             let place = super::number(out, at, b"n=", count as u64);
             let behind = tsns(out, place, list, count);

@@ -5,10 +5,13 @@ use Rattle.model.specs.State.{Out}
 use Rattle.model.specs.Calls as Model
 use Rattle.calls.specs.declared.Answer.{Answer}
 use Rattle.calls.specs.Meant.{said}
-use Rattle.calls.specs.Coincide.{OneOutcome, OutcomesCoincide}
+use Rattle.calls.specs.Coincide.{OneOutcome, OneList, OutcomesCoincide}
 
 pub one-outcome : OneOutcome
 one-outcome A room s x y lean said p q = p .0 ∙ sym (q .0)
+
+pub one-list : OneList
+one-list A kept room s x y lean said p q = p .0 ∙ sym (q .0)
 
 -- the answer that the model's was; the expired list is none of these
 abbrev unsaid : Model.Answer → Option Answer

@@ -92,7 +92,7 @@ Pop tsn = Goes (flatFound tsn) (pop tsn)
 abbrev pub MarkAll : Head → List ℕ → Head → List ℕ → Reply → Type 0
 MarkAll = Goes onlyNumber (doing markAll)
 
--- The TSNs in flight whose message has expired, in the front of the lent list; the value is how many. The sender stays. Refusals: 1, 11.
+-- The TSNs in flight whose message has expired, in the front of the lent list; the value is how many. What is pending and in flight stays. Refusals: 1, 11.
 abbrev pub ExpiredInflight : Room → (list : List ℕ) → (clock : ℕ) → Head → List ℕ → Head → List ℕ → List ℕ → Reply → Type 0
 ExpiredInflight room list clock = Lists room list (leanList clock) (expiredInflight clock)
 

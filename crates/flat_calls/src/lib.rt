@@ -233,14 +233,16 @@ pub fn mark_all(head: Head, cells: &mut [u64]) -> Said
     }
 }
 
-// The TSNs in flight whose message has expired, in the front of the lent list; the value is how many. The sender stays. Refusals: 1, 11.
+// The TSNs in flight whose message has expired, in the front of the lent list; the value is how many. What is pending and in flight stays. Refusals: 1, 11.
 pub fn expired_inflight(head: Head, cells: &mut [u64], list: &mut [u32], clock: u64) -> Said
     ensures { λ r. ⌜ ExpiredInflight (roomIn (now (cells .entry))) (now (list .entry)) clock head (now (cells .entry)) (r .head) (now (cells .exit)) (now (list .exit)) (r .reply) ⌝ }
 {
-    let answer = sender_calls::flight::expired_inflight(head, cells, clock, list);
+    let after = sender_calls::flight::expired_inflight(head, cells, clock, list);
+    let answer = after.answer;
     let reply = flat::replies::listed(answer);
+    let rest = after.head;
     Said {
-        head: head,
+        head: rest,
         reply: reply,
     }
 }

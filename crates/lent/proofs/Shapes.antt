@@ -46,7 +46,7 @@ abbrev pub count : ℕ
 count = 6656
 
 abbrev pub past : ℕ
-past = 104
+past = 112
 
 abbrev pub with-head : Sender → Head → Sender
 with-head s g = record { head = g; cells = s .cells }

@@ -26,7 +26,7 @@ use Rattle.lent.specs.Called.{Called}
 abbrev pub stateOf : Sender → State.Sender
 stateOf s = senderOf (s .head) (s .cells)
 
--- its counters of bytes are sums
+-- its counters of bytes are sums, and its bound of the deadlines in flight is one
 abbrev pub Sums : Sender → Type 0
 Sums s = Counted (s .head) (s .cells)
 

@@ -78,7 +78,7 @@ Pop tsn s s′ y = Flat.Pop tsn (s .head) (s .cells) (s′ .head) (s′ .cells) 
 abbrev pub MarkAll : Sender → Sender → Reply → Type 0
 MarkAll s s′ y = Flat.MarkAll (s .head) (s .cells) (s′ .head) (s′ .cells) y
 
--- The TSNs in flight whose message has expired, in the front of the lent list; the value is how many. The sender stays. Refusals: 1, 11.
+-- The TSNs in flight whose message has expired, in the front of the lent list; the value is how many. What is pending and in flight stays. Refusals: 1, 11.
 abbrev pub ExpiredInflight : (list : List ℕ) → (clock : ℕ) → Sender → Sender → List ℕ → Reply → Type 0
 ExpiredInflight list clock s s′ list′ y = Flat.ExpiredInflight room01 list clock (s .head) (s .cells) (s′ .head) (s′ .cells) list′ y
 

@@ -185,7 +185,7 @@ pub extern "C" fn girdermoth_mark_all(s: &mut Sender) -> Reply
     r.reply
 }
 
-// The TSNs in flight whose message has expired, in the front of the lent list; the value is how many. The sender stays. Refusals: 1, 11.
+// The TSNs in flight whose message has expired, in the front of the lent list; the value is how many. What is pending and in flight stays. Refusals: 1, 11.
 #[no_mangle]
 pub extern "C" fn girdermoth_expired_inflight(s: &mut Sender, list: &mut [u32], clock: u64) -> Reply
     ensures { λ r. ⌜ ExpiredInflight (now (list .entry)) clock (now (s .entry)) (now (s .exit)) (now (list .exit)) r ⌝ }

@@ -8,7 +8,7 @@ use Prim.Native.Nat.{ℕ, zero, suc, _≤_, _<_}
 use native.Mathlib.Omega.{arith}
 use lib.ListN.{length, getD, drop}
 use lib.Dec.{ltb, eqb}
-use borrow.Author.Tests.{lt-ltb, le-ltb, eq-eqb, eqb-true}
+use borrow.Author.Tests.{lt-ltb, le-ltb, ltb-true, eq-eqb, eqb-true}
 use Rattle.limits.specs.Limits.{Room, clockMax}
 use Rattle.limits.specs.Refusals.{beyondLimit, listShort}
 use Rattle.model.specs.declared.Chunk.{Chunk}
@@ -19,19 +19,21 @@ use Rattle.model.specs.declared.Listed.{Listed}
 use Rattle.model.specs.declared.UnderWay.{UnderWay}
 use Rattle.model.specs.declared.UnderWay.the-variants.{Idle, Sending}
 use Rattle.model.specs.Lists.{if_then_else_, keep, some-of}
-use Rattle.model.specs.State.{Sender, laneOf, isOf}
+use Rattle.model.specs.State.{Sender, Flight, laneOf, isOf}
 use Rattle.model.specs.Rings.{Listing, tsnsAre, refused, listing, expiredInflight}
 use Rattle.model.specs.Flight.{found}
 use Rattle.demands.specs.Words.{numberUnderWay, numberOfHead}
 use Rattle.demands.specs.States.{Has}
 use Rattle.chunk_slot.specs.Chunks.{blankChunk}
 use Rattle.payload_queue.specs.declared.Pending.{Pending}
-use Rattle.payload_queue.specs.Queue.{isAwaited, overdueTsns, listed, written}
+use Rattle.payload_queue.specs.Queue.{leastDue, isAwaited, overdueTsns, soughtTsns, listed, written}
+use Rattle.payload_queue.specs.Dues.{none-due}
+use Rattle.payload_queue.specs.Listing.{fits, sought-none, lists-as}
 use Rattle.ring.specs.Held.{found-some}
 use Rattle.payload_queue.specs.Model.{Names, expired-is}
 use Rattle.pending_queue.specs.Queue.{underWayOf, some-in}
 use Rattle.outbound_queue.specs.Outbound.{Good}
-use Rattle.outbound_abandon.specs.LeanListing.{named, leanList, listedIn}
+use Rattle.outbound_abandon.specs.LeanListing.{named, leanList, Lent, listedIn, DoesKept}
 
 -- ---- the message that is named, as code finds it
 
@@ -112,12 +114,21 @@ module _ {room : Room} (s : Sender) (g : Good room s) where
       go true e = ap (λ (w : Option ℕ). isAwaited (named w) n) (which n e (some-has n (s .flight .entries) (has-at (s .flight .entries) i h))) ∙ eq-eqb n n refl
       go false e = not-named n e (numberUnderWay (s .pending)) refl
 
--- ---- in a Good state the list is the model's
+-- ---- in a Good state whose bound is one the list is the model's
 
-pub lean-list : (now n : ℕ) {room : Room} {s : Sender} → Good room s → leanList now n s ≡ expiredInflight now n s
+-- before the bound nothing is overdue
+sought-is : (now due : ℕ) (w : Pending) (f : Flight) → due ≤ leastDue (f .entries) → soughtTsns due now w f ≡ overdueTsns now w f
+sought-is now due w f h = by (ltb now due) refl
+  where
+    by : (b : Bool) → ltb now due ≡ b → (if b then [] else overdueTsns now w f) ≡ overdueTsns now w f
+    by true e = sym (none-due now w (f .oldest) (f .entries) (omega (arith, h, ltb-true now due e)))
+    by false e = refl
+
+pub lean-list : (now due n : ℕ) {room : Room} {s : Sender} → due ≤ leastDue (s .flight .entries) → Good room s → leanList now due n s ≡ expiredInflight now n s
 unfolding leanList expiredInflight
-lean-list now n {room} {s} g =
-    ap (λ (l : List ℕ). if ltb clockMax now then refused beyondLimit else listing n l) (expired-is now (named (numberUnderWay (s .pending))) (s .pending) (s .flight) (names s g))
+lean-list now due n {room} {s} h g =
+    let w = named (numberUnderWay (s .pending)) in
+    ap (λ (l : List ℕ). if ltb clockMax now then refused beyondLimit else listing n l) (sought-is now due w (s .flight) h ∙ expired-is now w (s .pending) (s .flight) (names s g))
 
 -- ---- the ways out
 
@@ -129,19 +140,31 @@ listing-is ts out = by (ltb (length out) (length ts))
     by true = refl
     by false = refl
 
-module _ (now : ℕ) (s : Sender) (out : List ℕ) where
+module _ (now due : ℕ) (s : Sender) (out : List ℕ) where
   abbrev lists : Bool → Listing
-  lists b = if b then refused beyondLimit else listing (length out) (overdueTsns now (named (numberUnderWay (s .pending))) (s .flight))
+  lists b = if b then refused beyondLimit else listing (length out) (soughtTsns due now (named (numberUnderWay (s .pending))) (s .flight))
 
-  pub list-late : clockMax < now → record { answer = Listed.Refused beyondLimit; list = out } ≡ listedIn out (leanList now (length out) s)
+  pub list-late : clockMax < now → record { answer = Listed.Refused beyondLimit; list = out } ≡ listedIn out (leanList now due (length out) s)
   unfolding leanList
   list-late h = sym (ap (λ (b : Bool). listedIn out (lists b)) (lt-ltb clockMax now h))
 
   -- `w` is what the code names, and `after` what it leaves in the lent list
-  pub list-is : now ≤ clockMax → (w : Pending) → w ≡ named (numberUnderWay (s .pending)) → {r : Listed} {after : List ℕ} → r ≡ listed (overdueTsns now w (s .flight)) out
-      → after ≡ written (overdueTsns now w (s .flight)) out → record { answer = r; list = after } ≡ listedIn out (leanList now (length out) s)
+  pub list-is : now ≤ clockMax → (w : Pending) → w ≡ named (numberUnderWay (s .pending)) → {r : Listed} {after : List ℕ} → r ≡ listed (soughtTsns due now w (s .flight)) out
+      → after ≡ written (soughtTsns due now w (s .flight)) out → record { answer = r; list = after } ≡ listedIn out (leanList now due (length out) s)
   unfolding leanList
   list-is h w e q v =
-      ap₂ (λ (a : Listed) (l : List ℕ). record { answer = a; list = l }) q v ∙ listing-is (overdueTsns now w (s .flight)) out
-      ∙ ap (λ (y : Pending). listedIn out (listing (length out) (overdueTsns now y (s .flight)))) e
+      ap₂ (λ (a : Listed) (l : List ℕ). record { answer = a; list = l }) q v ∙ listing-is (soughtTsns due now w (s .flight)) out
+      ∙ ap (λ (y : Pending). listedIn out (listing (length out) (soughtTsns due now y (s .flight)))) e
       ∙ sym (ap (λ (b : Bool). listedIn out (lists b)) (le-ltb clockMax now h))
+
+  -- before the bound
+  pub list-early : now ≤ clockMax → now < due → record { answer = Listed.Count 0; list = out } ≡ listedIn out (leanList now due (length out) s)
+  list-early h e =
+      let w = named (numberUnderWay (s .pending)) in
+      let p = lists-as out (sought-none due now w (s .flight) e) (fits [] out (omega arith)) in
+      list-is h w refl (p .0) (p .1)
+
+  -- a list by that definition promises what it must: `kept` is more than that the bound is one
+  pub finds : {kept : Type 0} {room : Room} {got : Lent} → (kept → due ≤ leastDue (s .flight .entries)) → got ≡ listedIn out (leanList now due (length out) s)
+      → DoesKept kept room s got (listedIn out (leanList now due (length out) s)) (listedIn out (expiredInflight now (length out) s))
+  finds f e = (e, λ k g. e ∙ ap (listedIn out) (lean-list now due (length out) (f k) g))

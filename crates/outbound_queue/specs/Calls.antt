@@ -1,5 +1,5 @@
 -- What a contract of the queue promises, in one word: what becomes of the model's sender, whatever its streams are, of every queue `q` and every
--- cells `ws`; `q′` and `ws′` are those behind the call. And the counters of bytes stay sums.
+-- cells `ws`; `q′` and `ws′` are those behind the call. And the counters of bytes stay sums, and the bound one.
 use mathlib.Core.Path.{_≡_}
 use mathlib.Core.Bool.{Bool}
 use mathlib.Core.List.{List, _++_, map}

@@ -64,7 +64,7 @@ senderIn ts q r =
 abbrev pub senderOf : List Stream → OutboundQueue → List ℕ → Sender
 senderOf ts q ws = senderIn ts q (ringsIn ws)
 
--- both counters of bytes are sums
+-- both counters of bytes are sums, and the bound of the deadlines in flight is one
 abbrev pub CountedIn : OutboundQueue → Rings → Type 0
 CountedIn q r = PendingCounted (q .pending) (r .unordered) (r .ordered) × FlightCounted (q .inflight) (r .flight)
 

@@ -1,5 +1,5 @@
 -- The list of TSNs of the entries that pass a test: a step of it, its length, and how it is written into a lent list.
-use mathlib.Core.Path.{_≡_, refl, sym, ap, _∙_}
+use mathlib.Core.Path.{_≡_, refl, sym, ap, subst, _∙_}
 use mathlib.Core.Bool.{Bool, true, false}
 use mathlib.Core.List.{List, _∷_, _++_, []}
 use Prim.Native.Nat.{ℕ, _+_, _%_, _≤_, _<_}
@@ -11,10 +11,12 @@ use Rattle.limits.specs.Refusals.{listShort}
 use Rattle.model.specs.declared.Chunk.{Chunk}
 use Rattle.model.specs.declared.Listed.{Listed}
 use Rattle.model.specs.Lists.{if_then_else_}
+use Rattle.model.specs.State.{Flight}
 use Rattle.model.specs.Rings.{tsnsOf}
 use Rattle.rows.specs.Walks.{count}
 use Rattle.rows.specs.Fills.{Filled, fill-below, fill-turn, fill-length, fill-as, fill-met}
-use Rattle.payload_queue.specs.Queue.{listed, written}
+use Rattle.payload_queue.specs.declared.Pending.{Pending}
+use Rattle.payload_queue.specs.Queue.{listed, written, Lists, overdueTsns, soughtTsns}
 
 -- the TSN after this one
 abbrev pub next : ℕ → ℕ
@@ -38,6 +40,15 @@ module _ (p : Chunk → Bool) where
       picked true r = omega arith
       picked false r = omega arith
 
+-- ---- no more pass than there are
+pub count-within : (p : Chunk → Bool) (l : List Chunk) → count p l ≤ length l
+count-within p [] = omega arith
+count-within p (c ∷ l) = one (p c) (count-within p l)
+  where
+    one : (b : Bool) → count p l ≤ length l → (if b then 1 else 0) + count p l ≤ length (c ∷ l)
+    one true h = omega arith
+    one false h = omega arith
+
 -- ---- refused, or written
 
 module _ (ts out : List ℕ) where
@@ -46,6 +57,19 @@ module _ (ts out : List ℕ) where
 
   pub fits : length ts ≤ length out → (Listed.Count (length ts) ≡ listed ts out) × (ts ++ drop (length ts) out ≡ written ts out)
   fits h = let b = le-ltb (length out) (length ts) h in (rw b, rw b)
+
+-- ---- before the bound nothing is looked for
+
+module _ (due now : ℕ) (w : Pending) (f : Flight) where
+  pub sought-none : now < due → [] ≡ soughtTsns due now w f
+  sought-none h = sym (ap (λ (b : Bool). if b then [] else overdueTsns now w f) (lt-ltb now due h))
+
+  pub sought-all : due ≤ now → overdueTsns now w f ≡ soughtTsns due now w f
+  sought-all h = sym (ap (λ (b : Bool). if b then [] else overdueTsns now w f) (le-ltb now due h))
+
+-- the same list by another name
+pub lists-as : {ts us : List ℕ} (out : List ℕ) {out′ : List ℕ} {answer : Listed} → ts ≡ us → Lists ts out out′ answer → Lists us out out′ answer
+lists-as out {out′} {answer} e l = subst (λ (x : List ℕ). Lists x out out′ answer) e l
 
 -- ---- one more in the list, or not: `b` is what the test says of `x`, the first of `l`
 

@@ -3,32 +3,64 @@ use mathlib.Core.Path.{_≡_}
 use mathlib.Core.Bool.{Bool, false, not, _&&_, _||_}
 use mathlib.Core.Option.{Option, none, some}
 use mathlib.Core.List.{List, [], _∷_, _++_}
-use Prim.Native.Nat.{ℕ, _+_, _%_}
+use Prim.Native.Nat.{ℕ, _+_, _%_, _≤_, min}
 use lib.ListN.{length, drop}
 use lib.Dec.{ltb, eqb}
 use Rattle.limits.specs.Limits.{tsns}
-use Rattle.limits.specs.Refusals.{listShort}
+use Rattle.limits.specs.Refusals.{done, listShort}
+use Rattle.limits.specs.declared.Moment.{Moment}
 use Rattle.limits.specs.Moments.{passed}
 use Rattle.model.specs.declared.Chunk.{Chunk}
 use Rattle.model.specs.declared.Found.{Found}
 use Rattle.model.specs.declared.Listed.{Listed}
 use Rattle.model.specs.Lists.{if_then_else_, adjust}
 use Rattle.model.specs.State.{Flight, place}
+use Rattle.model.specs.Told.{toldListed}
 use Rattle.model.specs.Rings.{bytes, tsnsOf}
 use Rattle.model.specs.Flight.{acknowledged}
 use Rattle.rows.specs.Joins.{pushed}
 use Rattle.ring.specs.Held.{held}
 use Rattle.payload_queue.specs.declared.PayloadQueue.{PayloadQueue}
 use Rattle.payload_queue.specs.declared.Popped.{Popped}
+use Rattle.payload_queue.specs.declared.overdue.Overdue.{Overdue}
 use Rattle.payload_queue.specs.declared.Pending.{Pending}
 
 -- what is in flight
 abbrev pub flightOf : PayloadQueue → List ℕ → Flight
 flightOf q ws = record { oldest = q .oldest; entries = held (q .ring) ws }
 
+-- ---- the least deadline of the entries that are not abandoned
+
+-- where there is none
+abbrev pub never : ℕ
+never = 18446744073709551615
+
+-- that of a message
+abbrev pub dueAt : Moment → ℕ
+dueAt Moment.Absent = never
+dueAt (Moment.At d) = d
+
+-- that of an entry
+unfoldable pub dueOf : Chunk → ℕ
+dueOf c = if c .abandoned then never else dueAt (c .message .deadline)
+
+abbrev pub leastDue : List Chunk → ℕ
+leastDue [] = never
+leastDue (c ∷ l) = min (dueOf c) (leastDue l)
+
+-- ---- the numbers that are kept
+
 -- the counter is the sum of the bytes in flight
+abbrev pub Summed : PayloadQueue → List ℕ → Type 0
+Summed q ws = q .bytes ≡ bytes (held (q .ring) ws)
+
+-- no entry that is not abandoned has a deadline below the bound
+abbrev pub Bounded : PayloadQueue → List ℕ → Type 0
+Bounded q ws = q .due ≤ leastDue (held (q .ring) ws)
+
+-- the counter is the sum, and the bound is one
 abbrev pub Counted : PayloadQueue → List ℕ → Type 0
-Counted q ws = q .bytes ≡ bytes (held (q .ring) ws)
+Counted q ws = Summed q ws × Bounded q ws
 
 -- the entries are others, the oldest TSN stays
 abbrev pub changed : (List Chunk → List Chunk) → Flight → Flight
@@ -47,7 +79,7 @@ abbrev pub heldIn : Option Chunk → ℕ
 heldIn none = 0
 heldIn (some c) = c .length
 
--- ---- what a call promises, of every queue `q` and every cells `ws`; `q′` and `ws′` are those behind it. The counter stays the sum
+-- ---- what a call promises, of every queue `q` and every cells `ws`; `q′` and `ws′` are those behind it. The counter stays the sum, and the bound one
 
 -- the flight is changed
 abbrev pub Becomes : (Flight → Flight) → PayloadQueue → List ℕ → PayloadQueue → List ℕ → Type 0
@@ -76,7 +108,7 @@ poppedOf (c ∷ l) t f =
 abbrev pub popped : (tsn : ℕ) → Flight → Pop
 popped t f = poppedOf (f .entries) t f
 
--- only the oldest is taken, and the counter stays the sum
+-- only the oldest is taken, and the counter stays the sum, and the bound one
 abbrev pub Pops : (tsn : ℕ) → PayloadQueue → List ℕ → Popped → Type 0
 Pops t q ws r = (outcome r ws ≡ popped t (flightOf q ws)) × (Counted q ws → Counted (r .queue) ws)
 
@@ -104,3 +136,13 @@ written ts out = if ltb (length out) (length ts) then out else ts ++ drop (lengt
 -- a list of TSNs is told: `out` is lent, and `out′` are its cells then
 abbrev pub Lists : (ts out out′ : List ℕ) → Listed → Type 0
 Lists ts out out′ answer = (answer ≡ listed ts out) × (out′ ≡ written ts out)
+
+-- what is listed: before the bound nothing is looked for
+abbrev pub soughtTsns : (due now : ℕ) → Pending → Flight → List ℕ
+soughtTsns due now w f = if ltb now due then [] else overdueTsns now w f
+
+-- that list is told, and the flight stays; a refused call leaves the queue as it was
+abbrev pub Finds : (now : ℕ) → Pending → PayloadQueue → List ℕ → (out out′ : List ℕ) → Overdue → Type 0
+Finds now w q ws out out′ r =
+    Lists (soughtTsns (q .due) now w (flightOf q ws)) out out′ (r .answer) × Becomes (λ f. f) q ws (r .queue) ws
+    × ((toldListed (r .answer) .number ≡ done → ⊥) → r .queue ≡ q)

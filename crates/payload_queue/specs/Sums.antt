@@ -17,7 +17,7 @@ use Rattle.rows.specs.Joins.{pushed}
 use Rattle.ring.specs.Held.{held}
 use Rattle.ring.specs.Sums.{bytes-append, bytes-map, held-bytes}
 use Rattle.payload_queue.specs.declared.PayloadQueue.{PayloadQueue}
-use Rattle.payload_queue.specs.Queue.{Counted}
+use Rattle.payload_queue.specs.Queue.{Summed}
 
 -- ---- they fit
 
@@ -44,8 +44,8 @@ bytes-marked l = bytes-map toRetransmit (λ (c : Chunk). refl) l
 -- ---- so the counter follows
 
 module _ (q : PayloadQueue) (ws : List ℕ) (g : Ring) (vs : List ℕ) (n r : ℕ) where
-  pub counted-more : bytes (held g vs) ≡ bytes (held (q .ring) ws) + n → r ≡ (q .bytes + n) % 2 ^ 64 → Counted q ws → r ≡ bytes (held g vs)
+  pub counted-more : bytes (held g vs) ≡ bytes (held (q .ring) ws) + n → r ≡ (q .bytes + n) % 2 ^ 64 → Summed q ws → r ≡ bytes (held g vs)
   counted-more e s h = omega (arith, bytes-fit g vs)
 
-  pub counted-less : r < 18446744073709551616 → bytes (held g vs) + n ≡ bytes (held (q .ring) ws) → (r + n) % 2 ^ 64 ≡ q .bytes → Counted q ws → r ≡ bytes (held g vs)
+  pub counted-less : r < 18446744073709551616 → bytes (held g vs) + n ≡ bytes (held (q .ring) ws) → (r + n) % 2 ^ 64 ≡ q .bytes → Summed q ws → r ≡ bytes (held g vs)
   counted-less f e s h = omega (arith, bytes-fit (q .ring) ws)

@@ -1,27 +1,32 @@
 // What is in flight: a ring of chunks in lent cells, oldest first, whose TSNs are consecutive modulo 2^32 from `oldest` on. `bytes` is
-// what they hold together. Every value of the numbers means some flight (`flightOf`), so no call asks anything of its caller; that the
-// counter is the sum is `Counted`, which every call keeps.
+// what they hold together, and no deadline of an entry that is not abandoned is below `due`. Every value of the numbers means some flight
+// (`flightOf`), so no call asks anything of its caller; that the counter is the sum and the bound is one is `Counted`, which every call keeps.
 pub mod asks;
 pub mod marks;
 pub mod overdue;
 
+use limits::Moment;
 use model::Chunk;
 use model::Found;
 use ring::Ring;
 ghost use mathlib.Core.Path.{_≡_};
 ghost use mathlib.Core.List.{List, []};
-ghost use Prim.Native.Nat.{ℕ, _+_, _-_, _%_};
+ghost use Prim.Native.Nat.{ℕ, _+_, _-_, _%_, min};
 ghost use Rattle.limits.specs.Limits.{tsns};
 ghost use Rattle.model.specs.State.{inFlight};
 ghost use Rattle.model.specs.Flight.{found};
 ghost use Rattle.cells.specs.Slots.{roomOf};
-ghost use Rattle.payload_queue.specs.Queue.{Becomes, Pops, flightOf, Counted, filed};
+ghost use Rattle.payload_queue.specs.Queue.{Becomes, Pops, flightOf, Counted, filed, dueOf};
+
+// The bound of a flight in which nothing can expire.
+pub const NEVER: u64 = 18_446_744_073_709_551_615;
 
 #[repr(C)]
 pub struct PayloadQueue {
     pub ring: Ring,
     pub oldest: u32,
     pub bytes: u64,
+    pub due: u64,
 }
 
 pub struct Popped {
@@ -44,7 +49,31 @@ pub fn new(oldest: u32) -> PayloadQueue
         ring: ring,
         oldest: oldest,
         bytes: 0,
+        due: NEVER,
     }
+}
+
+// The deadline of a chunk that is not abandoned.
+fn due_of(chunk: Chunk) -> u64
+    ensures { λ r. ⌜ r ≡ dueOf chunk ⌝ }
+{
+    if chunk.abandoned {
+        return NEVER;
+    }
+    let message = chunk.message;
+    let deadline = message.deadline;
+    match deadline {
+        Moment::Absent => NEVER,
+        Moment::At(time) => time,
+    }
+}
+
+// A bound that is one of the chunk too.
+pub fn lowered(due: u64, chunk: Chunk) -> u64
+    ensures { λ r. ⌜ r ≡ min due (dueOf chunk) ⌝ }
+{
+    let own = due_of(chunk);
+    if own < due { own } else { due }
 }
 
 // Files a chunk behind the others, where there is room: it takes the next TSN.
@@ -58,13 +87,16 @@ pub fn push(q: PayloadQueue, cells: &mut [u64], chunk: Chunk) -> PayloadQueue
             ring: ring,
             oldest: q.oldest,
             bytes: q.bytes,
+            due: q.due,
         };
     }
     let sum = std::num::wrapping_add_u64(q.bytes, chunk.length as u64);
+    let due = lowered(q.due, chunk);
     PayloadQueue {
         ring: ring,
         oldest: q.oldest,
         bytes: sum,
+        due: due,
     }
 }
 
@@ -107,6 +139,7 @@ pub fn pop(q: PayloadQueue, cells: &[u64], tsn: u32) -> Popped
             ring: rest,
             oldest: next,
             bytes: left,
+            due: q.due,
         },
         front: Found::One(chunk),
     }

@@ -1,4 +1,5 @@
-// Entries of the flight are marked where they stand: acknowledged, given up, to be retransmitted. The counter of bytes stays the sum.
+// Entries of the flight are marked where they stand: acknowledged, given up, to be retransmitted. The counter of bytes stays the sum, and the bound of
+// the deadlines is still one.
 use super::PayloadQueue;
 use model::Chunk;
 use ring::Ring;
@@ -47,6 +48,7 @@ pub fn mark_as_acked(q: PayloadQueue, cells: &mut [u64], tsn: u32) -> Acked
             ring: ring,
             oldest: q.oldest,
             bytes: left,
+            due: q.due,
         },
         bytes: chunk.length,
     }
@@ -102,6 +104,7 @@ pub fn abandon_message(q: PayloadQueue, cells: &mut [u64], near: usize, number: 
             ring: ring,
             oldest: q.oldest,
             bytes: left,
+            due: q.due,
         },
         bytes: released,
     }

@@ -119,7 +119,8 @@ fn abandon(q: OutboundQueue, cells: &mut [u64], tsn: u32) -> OutboundQueue {
 
 fn expired(q: OutboundQueue, cells: &[u64], clock: u64) {
     let mut out = [7u32; 3];
-    let listed = outbound_abandon::overdue::expired_inflight(q, cells, clock, &mut out);
+    let found = outbound_abandon::overdue::expired_inflight(q, cells, clock, &mut out);
+    let listed = found.answer;
     show::number(b"expired at ", clock);
     match listed {
         Listed::Count(n) => show::number(b": ", n as u64),

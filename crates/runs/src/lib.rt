@@ -14,6 +14,7 @@ ghost use Rattle.model.specs.Rings.{expiredInflight};
 ghost use Rattle.model.specs.Calls.{run, answers, toList};
 ghost use Rattle.demands.specs.Demand3.{Demand3};
 ghost use Rattle.outbound_queue.specs.Outbound.{Good};
+ghost use Rattle.outbound_abandon.specs.LeanListing.{Lists};
 ghost use Rattle.sender_head.specs.Whole.{roomIn, senderOf, Counted};
 ghost use Rattle.coded_calls.specs.Coded.{callOf};
 ghost use Rattle.coded_calls.specs.Words.{words};
@@ -25,7 +26,15 @@ struct Ran {
     at: usize,
 }
 
-// What has expired in flight, by way of a lent list.
+// What has expired in flight. The head stays as it is, and with it the bound of the deadlines.
+fn expired_inflight(h: Head, cells: &[u64], clock: u64, list: &mut [u32]) -> Listed
+    ensures { λ r. ⌜ Lists (Counted h (now (cells .entry))) (roomIn (now (cells .entry))) clock (h .queue .inflight .due) (senderOf h (now (cells .entry))) (now (list .entry)) (now (list .exit)) r ⌝ }
+{
+    let found = sender_calls::flight::expired_inflight(h, cells, clock, list);
+    found.answer
+}
+
+// By way of a lent list.
 fn list_into(
     h: Head,
     cells: &[u64],
@@ -34,9 +43,9 @@ fn list_into(
     tape: &mut [u64],
     at: usize,
 ) -> usize
-    ensures { λ r. ⌜ (Good (roomIn (now (cells .entry))) (senderOf h (now (cells .entry))) → (us : List ℕ) → sets (now (tape .exit)) r us ≡ sets (now (tape .entry)) at (words (toList (expiredInflight clock (length (now (list .entry))) (senderOf h (now (cells .entry))))) ++ us)) ⌝ }
+    ensures { λ r. ⌜ (Counted h (now (cells .entry)) → Good (roomIn (now (cells .entry))) (senderOf h (now (cells .entry))) → (us : List ℕ) → sets (now (tape .exit)) r us ≡ sets (now (tape .entry)) at (words (toList (expiredInflight clock (length (now (list .entry))) (senderOf h (now (cells .entry))))) ++ us)) ⌝ }
 {
-    let listed = sender_calls::flight::expired_inflight(h, cells, clock, list);
+    let listed = expired_inflight(h, cells, clock, list);
     match listed {
         Listed::Refused(n) => coded_calls::tape::put_five(tape, at, 12, 0, n as u64, 0, 0),
         Listed::Count(n) => {
@@ -62,7 +71,7 @@ fn list_expired(
     tape: &mut [u64],
     at: usize,
 ) -> usize
-    ensures { λ r. ⌜ (Good (roomIn (now (cells .entry))) (senderOf h (now (cells .entry))) → (us : List ℕ) → sets (now (tape .exit)) r us ≡ sets (now (tape .entry)) at (words (toList (expiredInflight clock (min room 256) (senderOf h (now (cells .entry))))) ++ us)) ⌝ }
+    ensures { λ r. ⌜ (Counted h (now (cells .entry)) → Good (roomIn (now (cells .entry))) (senderOf h (now (cells .entry))) → (us : List ℕ) → sets (now (tape .exit)) r us ≡ sets (now (tape .entry)) at (words (toList (expiredInflight clock (min room 256) (senderOf h (now (cells .entry))))) ++ us)) ⌝ }
 {
     let mut list = [0u32; 256];
     let n = list_room(room);

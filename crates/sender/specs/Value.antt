@@ -6,6 +6,7 @@ use Rattle.limits.specs.Told.{Told}
 use Rattle.model.specs.State as State
 use Rattle.rows.specs.Spared.{Stays}
 use Rattle.outbound_queue.specs.Outbound.{Does}
+use Rattle.outbound_abandon.specs.LeanListing.{DoesKept}
 use Rattle.sender_head.specs.Whole.{senderOf, Counted}
 use Rattle.sender_head.specs.Calls as Head
 use Rattle.sender.specs.declared.Sender.{Sender}
@@ -14,7 +15,7 @@ use Rattle.sender.specs.declared.Sender.{Sender}
 abbrev pub stateOf : Sender → State.Sender
 stateOf s = senderOf (s .head) (s .cells)
 
--- its counters of bytes are sums
+-- its counters of bytes are sums, and its bound of the deadlines in flight is one
 abbrev pub Sums : Sender → Type 0
 Sums s = Counted (s .head) (s .cells)
 
@@ -58,6 +59,9 @@ said-at {got = got} said e q = subst (λ (room : Room). got ≡ said room) e q
 
 pub does-in : {A : Type 0} {got lean said : A} {s : State.Sender} {r t : Room} → r ≡ t → Does r s got lean said → Does t s got lean said
 does-in {got = got} {lean} {said} {s} e d = subst (λ (room : Room). Does room s got lean said) e d
+
+pub kept-in : {A kept : Type 0} {got lean said : A} {s : State.Sender} {r t : Room} → r ≡ t → DoesKept kept r s got lean said → DoesKept kept t s got lean said
+kept-in {kept = kept} {got} {lean} {said} {s} e d = subst (λ (room : Room). DoesKept kept room s got lean said) e d
 
 pub does-at : {A : Type 0} {got : A} {s : State.Sender} {r t : Room} (lean said : Room → A) → r ≡ t → Does r s got (lean r) (said r) → Does t s got (lean t) (said t)
 does-at {got = got} {s} lean said e d = subst (λ (room : Room). Does room s got (lean room) (said room)) e d

@@ -66,10 +66,12 @@ pub fn mark_all(s: Sender) -> Sender
     }
 }
 
-// The TSNs in flight whose message has expired, in the front of the lent list; the rest of that stays. Refusals: 1, 11.
+// The TSNs in flight whose message has expired, in the front of the lent list; the rest of that stays. Refusals: 1, 11. The sender's bound of the
+// deadlines stays too: no sender is given back.
 pub fn expired_inflight(s: Sender, clock: u64, out: &mut [u32]) -> Listed
-    ensures { λ r. ⌜ Lists room01 clock (stateOf s) (now (out .entry)) (now (out .exit)) r ⌝ }
+    ensures { λ r. ⌜ Lists (Sums s) room01 clock (s .head .queue .inflight .due) (stateOf s) (now (out .entry)) (now (out .exit)) r ⌝ }
 {
     let cells = s.cells;
-    sender_calls::flight::expired_inflight(s.head, &cells, clock, out)
+    let found = sender_calls::flight::expired_inflight(s.head, &cells, clock, out);
+    found.answer
 }

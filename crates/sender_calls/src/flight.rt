@@ -1,13 +1,13 @@
 // The sender's calls on the flight alone: each lends the queue's half of the cells to the crate below, and the table of streams stays. Each
-// equals 01's call of every head and every cells; the list of what has expired promises by `Does` what it does in states that no call makes,
-// and 01's list in every `Good` state.
+// equals 01's call of every head and every cells; the list of what has expired promises by `Finds` what it lists in states that no call makes,
+// and 01's list in every `Good` state whose numbers are kept.
 use model::Found;
 use model::Listed;
 use sender_head::Head;
 ghost use Rattle.model.specs.Flight.{acknowledge, pop, markAll};
-ghost use Rattle.sender_head.specs.Whole.{roomIn, senderOf};
-ghost use Rattle.outbound_abandon.specs.LeanListing.{Lists};
+ghost use Rattle.sender_head.specs.Whole.{roomIn};
 ghost use Rattle.sender_head.specs.Calls.{Goes, Becomes};
+ghost use Rattle.sender_calls.specs.Listing.{Finds};
 
 // The bytes that the entry held.
 pub struct Acked {
@@ -18,6 +18,12 @@ pub struct Acked {
 pub struct Popped {
     pub head: Head,
     pub front: Found,
+}
+
+// The head, whose bound of the deadlines may be another, and the answer.
+pub struct Overdue {
+    pub head: Head,
+    pub answer: Listed,
 }
 
 // The entry of a TSN is acknowledged, and holds nothing from then on.
@@ -65,10 +71,19 @@ pub fn mark_all(h: Head, cells: &mut [u64])
 }
 
 // The TSNs in flight whose message has expired, in the front of the lent list; the rest of that stays. Refusals: 1, 11.
-pub fn expired_inflight(h: Head, cells: &[u64], clock: u64, out: &mut [u32]) -> Listed
-    ensures { λ r. ⌜ Lists (roomIn (now (cells .entry))) clock (senderOf h (now (cells .entry))) (now (out .entry)) (now (out .exit)) r ⌝ }
+pub fn expired_inflight(h: Head, cells: &[u64], clock: u64, out: &mut [u32]) -> Overdue
+    ensures { λ r. ⌜ Finds (roomIn (now (cells .entry))) clock h (now (cells .entry)) (now (out .entry)) (now (out .exit)) (r .head) (r .answer) ⌝ }
 {
     let k = sender_head::table_words(cells);
     let n = cells.len();
-    outbound_abandon::overdue::expired_inflight(h.queue, &cells[k..n], clock, out)
+    let found = outbound_abandon::overdue::expired_inflight(h.queue, &cells[k..n], clock, out);
+    let queue = found.queue;
+    let answer = found.answer;
+    Overdue {
+        head: Head {
+            queue: queue,
+            streams: h.streams,
+        },
+        answer: answer,
+    }
 }

@@ -208,7 +208,8 @@ fn abandon(h: Head, cells: &mut [u64], tsn: u32) -> Head {
 
 fn expired(label: &[u8], h: Head, cells: &[u64], clock: u64) {
     let mut out = [9u32; 3];
-    let listed = sender_calls::flight::expired_inflight(h, cells, clock, &mut out);
+    let found = sender_calls::flight::expired_inflight(h, cells, clock, &mut out);
+    let listed = found.answer;
     show::text(label);
     match listed {
         Listed::Count(n) => show::number(b": ", n as u64),

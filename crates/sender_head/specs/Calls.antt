@@ -1,5 +1,5 @@
 -- What a contract of the sender promises, in one word: what becomes of the model's sender, of every head `h` and every cells `ws`; `h′` and `ws′`
--- are those behind the call. And the counters of bytes stay sums.
+-- are those behind the call. And the counters of bytes stay sums, and the bound one.
 use mathlib.Core.Path.{_≡_}
 use mathlib.Core.Bool.{Bool, false}
 use mathlib.Core.List.{List}

@@ -41,7 +41,7 @@ senderIn h c = Queue.senderOf (tableOf (h .streams) (c .table)) (h .queue) (c .q
 abbrev pub senderOf : Head → List ℕ → Sender
 senderOf h ws = senderIn h (halves ws)
 
--- the counters of bytes are sums
+-- the counters of bytes are sums, and the bound of the deadlines in flight is one
 abbrev pub Counted : Head → List ℕ → Type 0
 Counted h ws = Queue.Counted (h .queue) (halves ws .queue)
 

@@ -62,6 +62,7 @@ pub fn by_numbers(h: Head) -> Head
                 },
                 oldest: h.queue.inflight.oldest,
                 bytes: h.queue.inflight.bytes,
+                due: h.queue.inflight.due,
             },
             next_message_id: h.queue.next_message_id,
             next_unstarted_message_id: h.queue.next_unstarted_message_id,

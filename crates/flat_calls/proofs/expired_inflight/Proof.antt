@@ -1,5 +1,4 @@
 -- `flat_calls::expired_inflight` meets its contract: the call below does the same, and its answer is flat.
-use mathlib.Core.Path.{refl}
 use Rattle.flat_calls.specs.Listing.{lists}
 use borrow.Author.Needs.{needs}
 use Rattle.flat_calls.proofs.expired_inflight.Statement.{statement}
@@ -13,4 +12,4 @@ expired-inflight-spec =
     (λ c κs. search needs)
     (λ c. search needs)
     (λ c. search needs)
-    (λ c. (lists (c .listed .ensures) (c .before .before .before .expired-inflight .ensures), (refl, refl))))
+    (λ c. lists (c .before .listed .ensures) (c .before .before .before .before .expired-inflight .ensures)))

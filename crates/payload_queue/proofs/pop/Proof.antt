@@ -5,6 +5,7 @@ use denote.Ref.{now}
 use Rattle.ring.specs.Held.{held, first-one}
 use Rattle.payload_queue.specs.Queue.{flightOf}
 use Rattle.payload_queue.specs.Sums.{counted-less}
+use Rattle.payload_queue.specs.Dues.{least-rest}
 use Rattle.payload_queue.specs.Cases.{bytes-rest, pop-other, pop-none, pop-one}
 use borrow.Author.Needs.{needs}
 use Rattle.payload_queue.proofs.pop.Statement.{statement}
@@ -52,7 +53,7 @@ returns-3 c =
     let rest = c .before .before .before .shorter in
     let s = c .wrapping-sub-u64 in (
       pop-one (a .tsn) (flightOf (a .q) ws) l (c .before .before .before .before .before .before .before .before .if1 .left) e (rest .ensures) (c .before .before .wrapping-add-u32 .ensures),
-      counted-less (a .q) ws (rest .result) ws _ (s .result) (omega arith) (bytes-rest l e (rest .ensures)) (s .ensures),
+      λ h. (counted-less (a .q) ws (rest .result) ws _ (s .result) (omega arith) (bytes-rest l e (rest .ensures)) (s .ensures) (h .0), omega (arith, h .1, least-rest l e (rest .ensures))),
     )
 
 pub pop-spec : {M : Type 1} → statement M

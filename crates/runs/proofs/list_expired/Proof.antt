@@ -39,7 +39,7 @@ returns c =
     let n = c .before .before .before .before .before .before .list-room in
     let s = senderOf (a .h) (now (a .cells)) in
     let e = part-room (n .result) (a .room) (replicate 256 0) refl (n .ensures .0) in
-    λ good us. m .ensures good us ∙ ap (λ (k : ℕ). sets (now (a .tape)) (a .at) (words (toList (expiredInflight (a .clock) k s)) ++ us)) e
+    λ kept good us. m .ensures kept good us ∙ ap (λ (k : ℕ). sets (now (a .tape)) (a .at) (words (toList (expiredInflight (a .clock) k s)) ++ us)) e
 
 pub list-expired-spec : {M : Type 1} → statement M
 list-expired-spec =

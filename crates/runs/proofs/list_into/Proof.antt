@@ -43,7 +43,7 @@ part-put-list-end c =
     let m = c .before .before .before .before .before .before .before .before .before .before .before .expired-inflight in
     let x = c .before .before .before .before .before .before .before .listed2 .given in
     let list = m .last .1 .1 .1 .0 in
-    count-within (x .0 .0) list (now (a .list)) (leanList (a .clock) (length (now (a .list))) (senderOf (a .h) (now (a .cells)))) (search needs) (ap (λ (y : Listed). lent y list) (sym (x .1)) ∙ m .ensures .0)
+    count-within (x .0 .0) list (now (a .list)) (leanList (a .clock) (a .h .queue .inflight .due) (length (now (a .list))) (senderOf (a .h) (now (a .cells)))) (search needs) (ap (λ (y : Listed). lent y list) (sym (x .1)) ∙ m .ensures .0)
 
 put-list-requires : tie.Need-put-list-requires
 put-list-requires c κs = search needs
@@ -61,7 +61,7 @@ returns c =
     let x = c .before .before .before .before .before .listed .given in
     let list = m .last .1 .1 .1 .0 in
     let p = c .before .before .put-five in
-    λ good. listed-on (Listed.Refused (x .0 .0)) list (now (a .list)) (expiredInflight (a .clock) (length (now (a .list))) (senderOf (a .h) (now (a .cells)))) (now (a .tape)) (p .last .0) (a .at) (p .result) (ap (λ (y : Listed). lent y list) (sym (x .1)) ∙ m .ensures .1 good) (p .ensures)
+    λ kept good. listed-on (Listed.Refused (x .0 .0)) list (now (a .list)) (expiredInflight (a .clock) (length (now (a .list))) (senderOf (a .h) (now (a .cells)))) (now (a .tape)) (p .last .0) (a .at) (p .result) (ap (λ (y : Listed). lent y list) (sym (x .1)) ∙ m .ensures .1 kept good) (p .ensures)
 
 same-length-3 : tie.Need-same-length-3
 same-length-3 c = search needs
@@ -77,7 +77,7 @@ returns-2 c =
     let list = m .last .1 .1 .1 .0 in
     let p = c .before .before .before .before .before .before .before .before .put-five2 in
     let q = c .before .before .put-list in
-    λ good. listed-on (Listed.Count (x .0 .0)) list (now (a .list)) (expiredInflight (a .clock) (length (now (a .list))) (senderOf (a .h) (now (a .cells)))) (now (a .tape)) (q .last .0) (a .at) (q .result) (ap (λ (y : Listed). lent y list) (sym (x .1)) ∙ m .ensures .1 good) (λ us. q .ensures us ∙ p .ensures (part 0 (x .0 .0) list ++ us))
+    λ kept good. listed-on (Listed.Count (x .0 .0)) list (now (a .list)) (expiredInflight (a .clock) (length (now (a .list))) (senderOf (a .h) (now (a .cells)))) (now (a .tape)) (q .last .0) (a .at) (q .result) (ap (λ (y : Listed). lent y list) (sym (x .1)) ∙ m .ensures .1 kept good) (λ us. q .ensures us ∙ p .ensures (part 0 (x .0 .0) list ++ us))
 
 pub list-into-spec : {M : Type 1} → statement M
 list-into-spec =

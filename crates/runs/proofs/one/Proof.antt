@@ -65,7 +65,7 @@ returns-2 c =
     let p = c .before .before .list-expired in
     let n : min (x .0 .1 .0) 256 ≡ x .0 .1 .0 = omega (arith, l) in
     let o : ℕ → Answer = λ k. toList (expiredInflight (x .0 .0) k s) in
-    λ good sums. (after-of (Ask (ExpiredInflight (x .0 .0) (x .0 .1 .0))) (callOf (now (a .coded))) (o (x .0 .1 .0)) e refl (λ us. p .ensures good us ∙ ap (λ (k : ℕ). sets (now (a .tape)) (a .at) (words (o k) ++ us)) n), sums)
+    λ good sums. (after-of (Ask (ExpiredInflight (x .0 .0) (x .0 .1 .0))) (callOf (now (a .coded))) (o (x .0 .1 .0)) e refl (λ us. p .ensures sums good us ∙ ap (λ (k : ℕ). sets (now (a .tape)) (a .at) (words (o k) ++ us)) n), sums)
 
 pub one-spec : {M : Type 1} → statement M
 one-spec =

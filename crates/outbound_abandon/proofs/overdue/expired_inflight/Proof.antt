@@ -1,10 +1,11 @@
--- Refused, or the list of what is overdue; where the state is Good it is the model's.
-use mathlib.Core.Path.{ap}
+-- Refused, or none before the bound, or the list of what is overdue; where the state is Good it is the model's.
+use mathlib.Core.Path.{refl, ap}
 use denote.Ref.{now}
-use lib.ListN.{length}
-use Rattle.outbound_queue.specs.Outbound.{senderOf, does}
-use Rattle.outbound_abandon.specs.LeanListing.{listedIn}
-use Rattle.outbound_abandon.specs.Listings.{lean-list, list-late, list-is}
+use Rattle.model.specs.State.{Flight}
+use Rattle.payload_queue.specs.declared.PayloadQueue.{PayloadQueue}
+use Rattle.payload_queue.specs.Model.{withFlight}
+use Rattle.outbound_queue.specs.Outbound.{remade, senderOf}
+use Rattle.outbound_abandon.specs.Listings.{list-late, list-early, list-is, finds}
 use borrow.Author.Needs.{needs}
 use Rattle.outbound_abandon.proofs.overdue.expired_inflight.Statement.{statement}
 use Rattle.outbound_abandon.proofs.overdue.expired_inflight.Tie as tie
@@ -12,8 +13,20 @@ use Rattle.outbound_abandon.proofs.overdue.expired_inflight.Tie as tie
 returns : tie.Need-returns
 returns c =
     let a = c .before .before .before .args in
-    let o = now (a .out) in
-    λ room ts. does (λ g. ap (listedIn o) (lean-list (a .clock) (length o) g)) (list-late (a .clock) (senderOf ts (a .q) (now (a .cells))) o (c .if1 .taken))
+    let ws = now (a .cells) in (
+      λ room ts. finds (a .clock) (a .q .inflight .due) (senderOf ts (a .q) ws) (now (a .out)) (λ k. k .1 .1) (list-late (a .clock) (a .q .inflight .due) (senderOf ts (a .q) ws) (now (a .out)) (c .if1 .taken)),
+      (λ ts. refl, λ k. k),
+      λ n. refl,
+    )
+
+returns-2 : tie.Need-returns-2
+returns-2 c =
+    let a = c .before .before .before .before .before .args in
+    let ws = now (a .cells) in (
+      λ room ts. finds (a .clock) (a .q .inflight .due) (senderOf ts (a .q) ws) (now (a .out)) (λ k. k .1 .1) (list-early (a .clock) (a .q .inflight .due) (senderOf ts (a .q) ws) (now (a .out)) (c .before .before .if1 .left) (c .if2 .taken)),
+      (λ ts. refl, λ k. k),
+      λ n. refl,
+    )
 
 under-way-requires : tie.Need-under-way-requires
 under-way-requires c κs = search needs
@@ -48,20 +61,28 @@ expired-requires c κs = search needs
 same-length : tie.Need-same-length
 same-length c = search needs
 
-returns-2 : tie.Need-returns-2
-returns-2 c =
-    let a = c .before .before .before .before .before .before .before .before .before .args in
+returns-3 : tie.Need-returns-3
+returns-3 c =
+    let a = c .before .before .before .before .before .before .before .before .before .before .before .before .before .args in
+    let q = a .q in
+    let ws = now (a .cells) in
     let o = now (a .out) in
-    let w = c .before .before .before .before .before .under-way in
-    let e = c .before .before .expired .ensures in
-    λ room ts.
-    does (λ g. ap (listedIn o) (lean-list (a .clock) (length o) g)) (list-is (a .clock) (senderOf ts (a .q) (now (a .cells))) o (c .before .before .before .before .before .before .if1 .left) (w .result) (w .ensures) (e .0) (e .1))
+    let w = c .before .before .before .before .before .before .before .under-way in
+    let m = c .before .before .before .before .expired in
+    let e = m .ensures in (
+      λ room ts.
+          let s = senderOf ts q ws in
+          finds (a .clock) (q .inflight .due) s o (λ k. k .1 .1) (list-is (a .clock) (q .inflight .due) s o (c .before .before .before .before .before .before .before .before .before .before .if1 .left) (w .result) (w .ensures) (e .0 .0) (e .0 .1)),
+      (λ ts. ap (λ (f : Flight). withFlight f (senderOf ts q ws)) (e .1 .0), λ k. (k .0, e .1 .1 (k .1))),
+      λ n. ap (λ (f : PayloadQueue). remade (q .pending) f q) (e .2 n),
+    )
 
 pub expired-inflight-spec : {M : Type 1} → statement M
 expired-inflight-spec =
     tie.close
     (tie.spec
     returns
+    returns-2
     under-way-requires
     mul-k
     add-expired
@@ -73,4 +94,4 @@ expired-inflight-spec =
     part-expired-end
     expired-requires
     same-length
-    returns-2)
+    returns-3)

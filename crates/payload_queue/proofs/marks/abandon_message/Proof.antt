@@ -5,8 +5,10 @@ use native.Mathlib.Omega.{arith}
 use denote.Ref.{now}
 use Rattle.model.specs.Rings.{bytes}
 use Rattle.ring.specs.Held.{held}
+use Rattle.payload_queue.specs.Queue.{leastDue}
 use Rattle.payload_queue.specs.Sums.{counted-less}
 use Rattle.payload_queue.specs.OneRun.{firstOf, givenUpFrom, heldFrom, from-bytes}
+use Rattle.payload_queue.specs.Dues.{least-given}
 use Rattle.payload_queue.specs.Cases.{entries-are}
 use borrow.Author.Needs.{needs}
 use Rattle.payload_queue.proofs.marks.abandon_message.Statement.{statement}
@@ -32,11 +34,15 @@ returns c =
     let f = c .before .before .before .before .before .first-of .ensures in
     let g = c .before .before .before .give-up-run in
     let s = c .wrapping-sub-u64 in
-    let e = g .ensures .1 ∙ ap (λ (k : ℕ). givenUpFrom (a .number) k l) f in
-    let h = g .ensures .0 ∙ ap (λ (k : ℕ). heldFrom (a .number) k l) f in (
+    let k = firstOf (a .number) (a .near) l in
+    let e = g .ensures .1 ∙ ap (λ (i : ℕ). givenUpFrom (a .number) i l) f in
+    let h = g .ensures .0 ∙ ap (λ (i : ℕ). heldFrom (a .number) i l) f in (
       entries-are (a .q .oldest) e,
       h,
-      counted-less (a .q) ws (a .q .ring) (g .last .1 .0) (g .result) (s .result) (omega arith) (omega (arith, ap bytes e, h, from-bytes (a .number) (firstOf (a .number) (a .near) l) l)) (s .ensures),
+      λ n. (
+        counted-less (a .q) ws (a .q .ring) (g .last .1 .0) (g .result) (s .result) (omega arith) (omega (arith, ap bytes e, h, from-bytes (a .number) k l)) (s .ensures) (n .0),
+        omega (arith, n .1, ap leastDue e, least-given (a .number) k l),
+      ),
     )
 
 pub abandon-message-spec : {M : Type 1} → statement M

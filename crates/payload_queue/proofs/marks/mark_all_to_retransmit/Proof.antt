@@ -8,7 +8,9 @@ use Rattle.model.specs.Rings.{bytes}
 use Rattle.model.specs.Flight.{toRetransmit}
 use Rattle.rows.specs.Turns.{Mapped, map-turn, map-done}
 use Rattle.ring.specs.Held.{held}
+use Rattle.payload_queue.specs.Queue.{leastDue}
 use Rattle.payload_queue.specs.Sums.{bytes-marked}
+use Rattle.payload_queue.specs.Dues.{least-marked}
 use Rattle.payload_queue.specs.Cases.{entries-are}
 use borrow.Author.Needs.{needs}
 use Rattle.payload_queue.proofs.marks.mark_all_to_retransmit.Statement.{statement}
@@ -49,7 +51,7 @@ returns c =
     let l = c .before .loop in
     let e = held (a .q .ring) (now (a .cells)) in
     let m = map-done toRetransmit e (l .i) (l .inv .2) (omega arith) in
-    (entries-are (a .q .oldest) m, λ h. h ∙ sym (ap bytes m ∙ bytes-marked e))
+    (entries-are (a .q .oldest) m, λ h. (h .0 ∙ sym (ap bytes m ∙ bytes-marked e), omega (arith, h .1, ap leastDue m, least-marked e)))
 
 pub mark-all-to-retransmit-spec : {M : Type 1} → statement M
 mark-all-to-retransmit-spec =

@@ -9,8 +9,9 @@ use Rattle.model.specs.State.{place}
 use Rattle.model.specs.Rings.{bytes}
 use Rattle.chunk_slot.specs.Chunks.{blankChunk}
 use Rattle.ring.specs.Held.{held}
-use Rattle.payload_queue.specs.Queue.{flightOf}
+use Rattle.payload_queue.specs.Queue.{flightOf, leastDue}
 use Rattle.payload_queue.specs.Sums.{bytes-acked, counted-less}
+use Rattle.payload_queue.specs.Dues.{least-acked}
 use Rattle.payload_queue.specs.Cases.{entries-are, acked-put, held-at}
 use borrow.Author.Needs.{needs}
 use Rattle.payload_queue.proofs.marks.mark_as_acked.Statement.{statement}
@@ -50,7 +51,10 @@ returns c =
     let s = c .wrapping-sub-u64 in (
       entries-are (a .q .oldest) e,
       n ∙ held-at k l,
-      counted-less (a .q) ws (a .q .ring) (c .before .before .before .before .put .last .1 .0) (x .result .length) (s .result) (omega arith) (omega (arith, ap bytes e, n, bytes-acked k l)) (s .ensures),
+      λ h. (
+        counted-less (a .q) ws (a .q .ring) (c .before .before .before .before .put .last .1 .0) (x .result .length) (s .result) (omega arith) (omega (arith, ap bytes e, n, bytes-acked k l)) (s .ensures) (h .0),
+        omega (arith, h .1, ap leastDue e, least-acked k l),
+      ),
     )
 
 pub mark-as-acked-spec : {M : Type 1} → statement M

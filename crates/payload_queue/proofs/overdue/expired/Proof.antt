@@ -1,118 +1,67 @@
--- A loop that writes a list into lent cells: what stands there and what is to come are the list. It fits, since it was counted.
-use mathlib.Core.Path.{_∙_, sym, ap}
-use Prim.Native.Nat.{ℕ, _+_, _-_, _≤_}
+-- Before the bound there is none; else the list, where it fits, and the bound is the least deadline then.
+use mathlib.Core.Path.{refl, sym, ap, _∙_}
+use mathlib.Core.List.{[]}
 use native.Mathlib.Omega.{arith}
 use denote.Ref.{now}
-use lib.ListN.{length, drop}
+use lib.ListN.{length}
+use borrow.Author.Tests.{ltb-true, ltb-false}
 use Rattle.model.specs.declared.Listed.{Listed}
-use Rattle.model.specs.Rings.{tsnsOf}
-use Rattle.rows.specs.Turns.{read-turn, rest-none}
-use Rattle.rows.specs.Fills.{Filled, fill-start, fill-length, fill-all, fill-done, fill-as, fill-met}
-use Rattle.chunk_slot.specs.Chunks.{blankChunk}
+use Rattle.rows.specs.Walks.{count}
 use Rattle.ring.specs.Held.{held}
 use Rattle.payload_queue.specs.Queue.{flightOf, overdueEntry, overdueTsns}
-use Rattle.payload_queue.specs.Listing.{length-tsns, no-room, fits, fill-room, fill-step}
+use Rattle.payload_queue.specs.Listing.{length-tsns, no-room, fits, sought-none, sought-all, lists-as}
 use borrow.Author.Needs.{needs}
 use Rattle.payload_queue.proofs.overdue.expired.Statement.{statement}
 use Rattle.payload_queue.proofs.overdue.expired.Tie as tie
 
-abbrev Inv-loop : tie.InvT-loop
-Inv-loop cells clock pending out₀ ring needed n tsn₀ k₀ i₀ out tsn k i =
-    (i ≤ n) × (length (tsnsOf (overdueEntry clock pending) tsn₀ (held ring cells)) ≤ length out₀)
-    × Filled ℕ (tsnsOf (overdueEntry clock pending) tsn₀ (held ring cells)) out₀ k out (tsnsOf (overdueEntry clock pending) tsn (drop i (held ring cells)))
-
-abbrev μ-loop : tie.MeasureT-loop
-μ-loop cells clock pending out₀ ring needed n tsn₀ k₀ i₀ out tsn k i = n - i
-
-count-overdue-requires : tie.Need-count-overdue-requires Inv-loop μ-loop
-count-overdue-requires c κs = search needs
-
-returns : tie.Need-returns Inv-loop μ-loop
+returns : tie.Need-returns
 returns c =
-    let a = c .before .before .before .before .before .args in
-    let p = overdueEntry (a .clock) (a .pending) in
-    let e = held (a .q .ring) (now (a .cells)) in
-    let ts = overdueTsns (a .clock) (a .pending) (flightOf (a .q) (now (a .cells))) in
-    no-room ts (now (a .out)) (omega (arith, length-tsns p (a .q .oldest) e))
+    let a = c .before .before .before .before .args in
+    let e = sought-none (a .q .due) (a .clock) (a .pending) (flightOf (a .q) (now (a .cells))) (c .if1 .taken) in
+    (lists-as (now (a .out)) e (fits [] (now (a .out)) (omega arith)), (refl, λ h. h), λ n. refl)
 
-count-requires : tie.Need-count-requires Inv-loop μ-loop
-count-requires c κs = search needs
+is-short-requires : tie.Need-is-short-requires
+is-short-requires c κs = search needs
 
-loop-holds : tie.Need-loop-holds Inv-loop μ-loop
-loop-holds c =
-    let a = c .before .before .before .before .before .before .args in
-    let p = overdueEntry (a .clock) (a .pending) in
-    let e = held (a .q .ring) (now (a .cells)) in
-    (search needs, omega (arith, length-tsns p (a .q .oldest) e, c .before .before .count-overdue .ensures), fill-start _ _)
-
-nth-requires : tie.Need-nth-requires Inv-loop μ-loop
-nth-requires c κs = search needs
-
-is-overdue-requires : tie.Need-is-overdue-requires Inv-loop μ-loop
-is-overdue-requires c κs = search needs
-
-note-requires : tie.Need-note-requires Inv-loop μ-loop
-note-requires c κs =
-    let a = c .before .before .before .before .before .before .before .before .before .before .before .args in
-    let l = c .before .before .before .before .loop in
-    let p = overdueEntry (a .clock) (a .pending) in
-    let e = held (a .q .ring) (now (a .cells)) in
-    let ts = overdueTsns (a .clock) (a .pending) (flightOf (a .q) (now (a .cells))) in
-    let r = read-turn e (l .i) blankChunk (c .before .before .nth .ensures) (omega arith) in
-    fill-room ts (now (a .out)) p (l .inv .1) (l .tsn) (l .k) (drop (l .i) e) (l .out) (c .is-overdue .ensures) r (l .inv .2)
-
-wrapping-add-u32-requires : tie.Need-wrapping-add-u32-requires Inv-loop μ-loop
-wrapping-add-u32-requires c κs = search needs
-
-add-i : tie.Need-add-i Inv-loop μ-loop
-add-i c = search needs
-
-loop-less : tie.Need-loop-less Inv-loop μ-loop
-loop-less c = search needs
-
-loop-again : tie.Need-loop-again Inv-loop μ-loop
-loop-again c =
-    let a = c .before .before .before .before .before .before .before .before .before .before .before .before .before .before .before .args in
-    let l = c .before .before .before .before .before .before .before .before .loop in
-    let p = overdueEntry (a .clock) (a .pending) in
-    let e = held (a .q .ring) (now (a .cells)) in
-    let ts = overdueTsns (a .clock) (a .pending) (flightOf (a .q) (now (a .cells))) in
-    let r = read-turn e (l .i) blankChunk (c .before .before .before .before .before .before .nth .ensures) (omega arith) in
-    let b = c .before .before .before .before .is-overdue in
-    let n = c .before .before .before .note .ensures in
-    let f = fill-step ts (now (a .out)) p (l .inv .1) (b .result) (l .tsn) (l .k) (drop (l .i) e) (drop (l .i + 1) e) (b .ensures) r (l .inv .2) in
-    (omega arith, l .inv .1, fill-as (ap (λ (t : ℕ). tsnsOf p t (drop (l .i + 1) e)) (sym (c .wrapping-add-u32 .ensures))) (fill-met (n .0) (n .1) f))
-
-same-length : tie.Need-same-length Inv-loop μ-loop
-same-length c = let l = c .before .loop in fill-length (l .inv .1) (l .inv .2)
-
-returns-2 : tie.Need-returns-2 Inv-loop μ-loop
+returns-2 : tie.Need-returns-2
 returns-2 c =
-    let a = c .before .before .before .before .before .before .before .before .args in
-    let l = c .before .loop in
+    let a = c .before .before .before .before .before .before .before .args in
+    let f = flightOf (a .q) (now (a .cells)) in
     let p = overdueEntry (a .clock) (a .pending) in
-    let e = held (a .q .ring) (now (a .cells)) in
-    let ts = overdueTsns (a .clock) (a .pending) (flightOf (a .q) (now (a .cells))) in
-    let f = fill-as (ap (tsnsOf p (l .tsn)) (rest-none e (l .i) (omega arith))) (l .inv .2) in
-    let g = fits ts (now (a .out)) (l .inv .1) in
-    (ap Listed.Count (fill-all f) ∙ g .0, fill-done f ∙ g .1)
+    let short = ltb-true (length (now (a .out))) (count p (f .entries)) (sym (c .before .is-short .ensures) ∙ c .if2 .taken) in
+    let e = sought-all (a .q .due) (a .clock) (a .pending) f (omega (arith, c .before .before .before .if1 .left)) in
+    (lists-as (now (a .out)) e (no-room (overdueTsns (a .clock) (a .pending) f) (now (a .out)) (omega (arith, length-tsns p (a .q .oldest) (f .entries), short))), (refl, λ h. h), λ n. refl)
+
+list-all-requires : tie.Need-list-all-requires
+list-all-requires c κs =
+    let a = c .before .before .before .before .before .before .before .before .args in
+    ltb-false (length (now (a .out))) (count (overdueEntry (a .clock) (a .pending)) (held (a .q .ring) (now (a .cells)))) (sym (c .before .before .is-short .ensures) ∙ c .before .if2 .left)
+
+least-deadline-requires : tie.Need-least-deadline-requires
+least-deadline-requires c κs = search needs
+
+same-length : tie.Need-same-length
+same-length c = search needs
+
+returns-3 : tie.Need-returns-3
+returns-3 c =
+    let a = c .before .before .before .before .before .before .before .before .before .before .before .before .args in
+    let f = flightOf (a .q) (now (a .cells)) in
+    let p = overdueEntry (a .clock) (a .pending) in
+    let room = ltb-false (length (now (a .out))) (count p (f .entries)) (sym (c .before .before .before .before .before .before .is-short .ensures) ∙ c .before .before .before .before .before .if2 .left) in
+    let g = fits (overdueTsns (a .clock) (a .pending) f) (now (a .out)) (omega (arith, length-tsns p (a .q .oldest) (f .entries), room)) in
+    let k = c .before .before .before .list-all .ensures in
+    let e = sought-all (a .q .due) (a .clock) (a .pending) f (omega (arith, c .before .before .before .before .before .before .before .before .if1 .left)) in
+    (lists-as (now (a .out)) e (ap Listed.Count (k .0) ∙ g .0, k .1 ∙ g .1), (refl, λ h. (h .0, omega (arith, c .least-deadline .ensures))), λ n. absurd (n refl))
 
 pub expired-spec : {M : Type 1} → statement M
 expired-spec =
     tie.close
     (tie.spec
-    Inv-loop
-    μ-loop
-    count-overdue-requires
     returns
-    count-requires
-    loop-holds
-    nth-requires
-    is-overdue-requires
-    note-requires
-    wrapping-add-u32-requires
-    add-i
-    loop-less
-    loop-again
+    is-short-requires
+    returns-2
+    list-all-requires
+    least-deadline-requires
     same-length
-    returns-2)
+    returns-3)

@@ -2,7 +2,7 @@
 use mathlib.Core.Path.{_≡_}
 use lib.ListN.{length}
 use Rattle.sender.specs.Sizes.{sizes}
-use Rattle.sender.specs.Value.{does-in}
+use Rattle.sender.specs.Value.{kept-in}
 use borrow.Author.Needs.{needs}
 use Rattle.sender.proofs.flight.expired_inflight.Statement.{statement}
 use Rattle.sender.proofs.flight.expired_inflight.Tie as tie
@@ -21,7 +21,7 @@ returns c =
     let a = c .before .before .before .before .before .before .before .args in
     let m = c .before .before .expired-inflight in
     let e : length (a .s .cells) ≡ 6656 = search needs in
-    does-in (sizes (a .s .cells) e) (m .ensures)
+    kept-in (sizes (a .s .cells) e) (m .ensures .0)
 
 pub expired-inflight-spec : {M : Type 1} → statement M
 expired-inflight-spec =

@@ -1,12 +1,6 @@
 -- The queue's list, of the whole sender.
-use mathlib.Core.Path.{refl}
 use denote.Ref.{now}
-use lib.ListN.{length}
-use Rattle.model.specs.State.{Sender}
-use Rattle.model.specs.Rings.{expiredInflight}
-use Rattle.outbound_abandon.specs.LeanListing.{leanList, listedIn}
-use Rattle.sender_head.specs.Whole.{roomIn}
-use Rattle.sender_head.specs.Lent.{open-streams, lent-sender, does-of}
+use Rattle.sender_calls.specs.Listing.{finds-lent}
 use borrow.Author.Needs.{needs}
 use Rattle.sender_calls.proofs.flight.expired_inflight.Statement.{statement}
 use Rattle.sender_calls.proofs.flight.expired_inflight.Tie as tie
@@ -34,13 +28,9 @@ same-length c = search needs
 
 returns : tie.Need-returns
 returns c =
-    let a = c .before .before .before .before .before .before .before .before .args in
-    let h = a .h in
-    let ws = now (a .cells) in
-    let o = now (a .out) in
-    let k = c .before .before .before .before .before .table-words .ensures .0 in
-    does-of (λ (s : Sender). listedIn o (leanList (a .clock) (length o) s)) (λ (s : Sender). listedIn o (expiredInflight (a .clock) (length o) s)) refl (lent-sender h ws _ k)
-    (c .before .before .expired-inflight .ensures (roomIn ws) (open-streams h ws _ k))
+    let a = c .before .before .before .before .before .before .before .before .before .args in
+    let k = c .before .before .before .before .before .before .table-words .ensures .0 in
+    finds-lent (a .h) (now (a .cells)) _ k _ (a .clock) (now (a .out)) (c .before .before .before .expired-inflight .ensures)
 
 pub expired-inflight-spec : {M : Type 1} → statement M
 expired-inflight-spec =
