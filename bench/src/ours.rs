@@ -127,7 +127,9 @@ impl Clockwork for OurTimers {
     fn fresh() -> Self {
         let mut timers = c::Timers::ZERO;
         assert!(c::girdermoth_timers_new(&mut timers, true, 8, true, 10, 60_000) == 0);
-        OurTimers { timers, rto: c::girdermoth_rto_new(3000, 1000, 60_000).rto }
+        let mut rto = c::Rto::ZERO;
+        assert!(c::girdermoth_rto_new(&mut rto, 3000, 1000, 60_000) == 0);
+        OurTimers { timers, rto }
     }
     fn time(&self, milliseconds: u64) -> u64 {
         milliseconds
@@ -151,9 +153,7 @@ impl Clockwork for OurTimers {
         time
     }
     fn measure(&mut self, rtt: u64) -> u64 {
-        let reply = c::girdermoth_rto_measure(self.rto, rtt);
-        self.rto = reply.rto;
-        reply.value
+        c::girdermoth_rto_set_new_rtt(&mut self.rto, rtt).value
     }
     fn estimate(&self) -> (u64, u64) {
         (self.rto.rto, self.rto.rttvar.to_bits())
