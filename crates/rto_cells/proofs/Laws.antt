@@ -3,9 +3,9 @@ use mathlib.Core.Path.{_≡_, refl, sym, ap, subst, _∙_}
 use mathlib.Core.Logic.{_≢_}
 use mathlib.Core.Bool.{Bool, true, false, cond, _||_}
 use mathlib.Core.List.{List, [], _∷_}
-use Prim.Native.Nat.{ℕ, _≤_}
+use Prim.Native.Nat.{ℕ}
 use native.Mathlib.Omega.{arith}
-use lib.Dec.{eqb, ltb}
+use lib.Dec.{ltb}
 use lib.ListN.{length, getD, set}
 use borrow.Author.Tests.{eq-eqb, ne-eqb}
 use Rattle.limits.specs.Flags.{bitOf, isSet, set-back}
@@ -15,11 +15,10 @@ use Rattle.rto.specs.declared.Made.{Made}
 use Rattle.rto.specs.declared.Measured.{Measured}
 use Rattle.rto.specs.declared.Set.{Set}
 use Rattle.rto.specs.Calls.{Outcome, done, refused, ofMeasured, ofSet}
-use Rattle.rto.specs.Rto.{f64, beyond, fresh, given, renewed, settled, firstVar, nextVar, nextSrtt, countsFirst, newOf, measuredOf, resetOf, setOf}
+use Rattle.rto.specs.Rto.{beyond, fresh, given, settled, firstVar, nextVar, nextSrtt, countsFirst, newOf, measuredOf, resetOf, setOf}
 use Rattle.rto_cells.specs.Words.{managerIn, managerOf, headOf}
 use Rattle.rto_cells.specs.Says.{smoothedIn, saidOf, saidTold, saidMeasured, toldOf, ofMade, inWords, Does, Changes, Creates, Measures, Resets, Sets}
 use Rattle.rto_cells.specs.declared.Head.{Head}
-use Rattle.rto_cells.specs.declared.Smoothed.{Smoothed}
 use Rattle.rto_cells.specs.declared.Said.{Said}
 use Rattle.rto_cells.specs.declared.SaidSmoothed.{SaidSmoothed}
 

@@ -6,11 +6,11 @@ use mathlib.Core.List.{List, []}
 use Prim.Native.Nat.{ℕ, _≤_}
 use lib.Dec.{eqb}
 use Rattle.limits.specs.Refusals.{beyondLimit}
-use Rattle.limits.specs.Told.{Told, refusing, valueAt, given}
+use Rattle.limits.specs.Told.{Told, valueAt, given}
 use Rattle.rto.specs.declared.RtoManager.{RtoManager}
 use Rattle.rto.specs.declared.Made.{Made}
 use Rattle.rto.specs.declared.Measured.{Measured}
-use Rattle.rto.specs.Told.{toldMade, toldMeasured, toldSet}
+use Rattle.rto.specs.Told.{toldMade, toldMeasured}
 use Rattle.rto.specs.Calls.{Outcome, telling, done, refused, ofMeasured, ofSet}
 use Rattle.rto.specs.Rto.{newOf, measuredOf, getOf, resetOf, setOf}
 use Rattle.rto_cells.specs.Words.{managerOf, headOf}

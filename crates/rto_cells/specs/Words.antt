@@ -3,7 +3,7 @@ use Prim.Native.Nat.{ℕ}
 use mathlib.Core.List.{List}
 use lib.Ieee.{Float}
 use lib.ListN.{getD}
-pub use Rattle.limits.specs.Flags.{bitOf, isSet}
+use Rattle.limits.specs.Flags.{isSet}
 use Rattle.rto.specs.declared.RtoManager.{RtoManager}
 use Rattle.rto_cells.specs.declared.Head.{Head}
 
