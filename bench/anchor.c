@@ -479,25 +479,30 @@ girdermoth_expiry anchor_timer_is_expired(girdermoth_timers *s, size_t timer, ui
 
 // ---- the round-trip estimator
 
-girdermoth_rto_reply anchor_rto_new(uint64_t initial, uint64_t low, uint64_t high) {
-    if (initial > UINT32_MAX || low > UINT32_MAX || high > UINT32_MAX) return (girdermoth_rto_reply){.refusal = GIRDERMOTH_BEYOND_LIMIT};
-    if (low > high) return (girdermoth_rto_reply){.refusal = GIRDERMOTH_BAD_BOUNDS};
-    return (girdermoth_rto_reply){.rto = {.rto = initial, .rto_initial = initial, .rto_min = low, .rto_max = high}};
+uint8_t anchor_rto_new(girdermoth_rto *s, uint64_t initial, uint64_t low, uint64_t high) {
+    if (initial > UINT32_MAX || low > UINT32_MAX || high > UINT32_MAX) return GIRDERMOTH_BEYOND_LIMIT;
+    if (low > high) return GIRDERMOTH_BAD_BOUNDS;
+    *s = (girdermoth_rto){.rto = initial, .rto_initial = initial, .rto_min = low, .rto_max = high};
+    return GIRDERMOTH_DONE;
 }
 
 // Every operation on `rttvar` rounds, so none may be fused with another (bench/build.rs says so to the compiler).
-girdermoth_rto_reply anchor_rto_measure(girdermoth_rto r, uint64_t rtt) {
-    if (rtt > UINT32_MAX) return (girdermoth_rto_reply){.rto = r, .refusal = GIRDERMOTH_BEYOND_LIMIT};
-    if (r.no_update) return (girdermoth_rto_reply){.rto = r, .value = r.srtt};
-    if (r.srtt) {
-        word gap = r.srtt <= rtt ? rtt - r.srtt : r.srtt - rtt;
-        r.rttvar = (6.0 * r.rttvar + 2.0 * (double)gap) / 8.0;
-        r.srtt = (7 * r.srtt + rtt) / 8;
+girdermoth_reply anchor_rto_set_new_rtt(girdermoth_rto *s, uint64_t rtt) {
+    if (rtt > UINT32_MAX) return (girdermoth_reply){.refusal = GIRDERMOTH_BEYOND_LIMIT};
+    word srtt = s->srtt;
+    if (s->no_update) return (girdermoth_reply){.value = srtt, .yes = true};
+    double rttvar;
+    if (srtt) {
+        word gap = srtt <= rtt ? rtt - srtt : srtt - rtt;
+        rttvar = (6.0 * s->rttvar + 2.0 * (double)gap) / 8.0;
+        srtt = (7 * srtt + rtt) / 8;
     } else {
-        r.rttvar = (double)rtt / 2.0;
-        r.srtt = rtt;
+        rttvar = (double)rtt / 2.0;
+        srtt = rtt;
     }
-    word sum = r.srtt + (word)(4.0 * r.rttvar), capped = sum < r.rto_max ? sum : r.rto_max;
-    r.rto = capped < r.rto_min ? r.rto_min : capped;
-    return (girdermoth_rto_reply){.rto = r, .value = r.srtt};
+    word sum = srtt + (word)(4.0 * rttvar), capped = sum < s->rto_max ? sum : s->rto_max;
+    s->srtt = srtt;
+    s->rttvar = rttvar;
+    s->rto = capped < s->rto_min ? s->rto_min : capped;
+    return (girdermoth_reply){.value = srtt, .yes = true};
 }

@@ -173,32 +173,27 @@ girdermoth_reply girdermoth_high_threshold(const girdermoth_sender *s, uint16_t 
 // Messages and bytes that the stream has sent. Refused: NOT_OPEN.
 girdermoth_counts girdermoth_statistics(const girdermoth_sender *s, uint16_t identifier);
 
-// ---- the round-trip estimator: a struct of numbers that goes in and comes back by value
+// ---- the round-trip estimator: one struct that the caller owns, and lends to each call as it does a sender
 
+// Any bytes are an estimator: but only girdermoth_rto_new makes one that means something. Updates are off where `no_update` is not 0.
 typedef struct {
+    uint64_t rto_initial, rto_min, rto_max, no_update, srtt;
     double rttvar;
-    uint64_t srtt, rto, rto_initial, rto_min, rto_max;
-    uint8_t no_update;
+    uint64_t rto;
 } girdermoth_rto;
 
-typedef struct {
-    girdermoth_rto rto;
-    uint64_t value;
-    uint8_t refusal;
-} girdermoth_rto_reply;
+GIRDERMOTH_ASSERT(sizeof(girdermoth_rto) == 56 && offsetof(girdermoth_rto, srtt) == 32 && offsetof(girdermoth_rto, rto) == 48, "rto");
 
-GIRDERMOTH_ASSERT(sizeof(girdermoth_rto) == 56 && sizeof(girdermoth_rto_reply) == 72 && offsetof(girdermoth_rto_reply, refusal) == 64, "rto");
-
-// A refused call hands back the estimator that was given. Settings and measured times are milliseconds.
-// Refused: BEYOND_LIMIT, BAD_BOUNDS; then all numbers of the estimator are 0.
-girdermoth_rto_reply girdermoth_rto_new(uint64_t initial, uint64_t low, uint64_t high);
-// `value` is the smoothed round-trip time. Refused: BEYOND_LIMIT.
-girdermoth_rto_reply girdermoth_rto_measure(girdermoth_rto r, uint64_t rtt);
-uint64_t girdermoth_rto_get(girdermoth_rto r);
-// Never refused; changes nothing while `no_update` is set.
-girdermoth_rto_reply girdermoth_rto_reset(girdermoth_rto r);
-// Refused: BEYOND_LIMIT.
-girdermoth_rto_reply girdermoth_rto_set(girdermoth_rto r, uint64_t rto, bool no_update);
+// A refused call changes no byte. Settings and measured times are milliseconds. A reply that is a uint8_t alone is 0, or the refusal.
+// An estimator without a measurement, whatever the bytes were. Refused: BEYOND_LIMIT, BAD_BOUNDS.
+uint8_t girdermoth_rto_new(girdermoth_rto *s, uint64_t initial, uint64_t low, uint64_t high);
+// Takes a measured time; `value` is the smoothed one. Changes nothing while updates are off. Refused: BEYOND_LIMIT.
+girdermoth_reply girdermoth_rto_set_new_rtt(girdermoth_rto *s, uint64_t rtt);
+uint64_t girdermoth_rto_get_rto(const girdermoth_rto *s);
+// Back to no measurement and the initial RTO. Changes nothing while updates are off. Never refused.
+uint8_t girdermoth_rto_reset(girdermoth_rto *s);
+// The RTO is kept as it is given; `no_update` turns updates off, or on again. Refused: BEYOND_LIMIT.
+uint8_t girdermoth_rto_set_rto(girdermoth_rto *s, uint64_t rto, bool no_update);
 
 // ---- the six timers: one struct that the caller owns, and lends to each call as it does a sender
 

@@ -1,5 +1,5 @@
 //! The calls of include/girdermoth.h that the race makes, and the two that have them: the archive, and the anchor in C (anchor.c).
-use crate::sys::{self, Expiry, Fragment, Freed, Reply, Rto, RtoReply, Sender, Timers};
+use crate::sys::{self, Expiry, Fragment, Freed, Reply, Rto, Sender, Timers};
 
 /// What a host links.
 pub struct Archive;
@@ -80,6 +80,6 @@ calls! {
     timer_is_expired: girdermoth_timer_is_expired, anchor_timer_is_expired(
         s: &mut Timers, timer: usize, clock: u64
     ) -> Expiry;
-    rto_new: girdermoth_rto_new, anchor_rto_new(initial: u64, low: u64, high: u64) -> RtoReply;
-    rto_measure: girdermoth_rto_measure, anchor_rto_measure(r: Rto, rtt: u64) -> RtoReply;
+    rto_new: girdermoth_rto_new, anchor_rto_new(s: &mut Rto, initial: u64, low: u64, high: u64) -> u8;
+    rto_set_new_rtt: girdermoth_rto_set_new_rtt, anchor_rto_set_new_rtt(s: &mut Rto, rtt: u64) -> Reply;
 }

@@ -154,7 +154,9 @@ impl<C: Calls> Clockwork for LentTimers<C> {
     fn fresh() -> Self {
         let mut timers = sys::Timers::ZERO;
         assert!(C::timers_new(&mut timers, true, 8, true, 10, 60_000) == 0);
-        LentTimers { timers, rto: C::rto_new(3000, 1000, 60_000).rto, calls: PhantomData }
+        let mut rto = sys::Rto::ZERO;
+        assert!(C::rto_new(&mut rto, 3000, 1000, 60_000) == 0);
+        LentTimers { timers, rto, calls: PhantomData }
     }
     fn time(&self, milliseconds: u64) -> u64 {
         milliseconds
@@ -178,9 +180,7 @@ impl<C: Calls> Clockwork for LentTimers<C> {
         time
     }
     fn measure(&mut self, rtt: u64) -> u64 {
-        let reply = C::rto_measure(self.rto, rtt);
-        self.rto = reply.rto;
-        reply.value
+        C::rto_set_new_rtt(&mut self.rto, rtt).value
     }
     fn estimate(&self) -> (u64, u64) {
         (self.rto.rto, self.rto.rttvar.to_bits())

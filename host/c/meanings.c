@@ -186,13 +186,13 @@ static void timers(void) {
 
 // Every field of an estimator, each another number.
 static void estimator(void) {
-    girdermoth_rto_reply r = girdermoth_rto_new(3000, 1000, 60000);
-    WANT(r.rto.rto == 3000 && r.rto.rto_initial == 3000 && r.rto.rto_min == 1000 && r.rto.rto_max == 60000 && r.rto.srtt == 0 && r.rto.rttvar == 0 && !r.rto.no_update);
-    r = girdermoth_rto_measure(r.rto, 600);
-    WANT(r.value == 600 && r.rto.srtt == 600 && r.rto.rttvar == 300 && r.rto.rto == 1800 && girdermoth_rto_get(r.rto) == 1800);
-    r = girdermoth_rto_set(r.rto, 70000, true);
-    WANT(r.rto.no_update == 1 && r.rto.rto == 70000 && r.rto.srtt == 600);
-    WANT(girdermoth_rto_new(0, 2, 1).refusal == GIRDERMOTH_BAD_BOUNDS && girdermoth_rto_new(0, 2, UINT64_C(4294967296)).refusal == GIRDERMOTH_BEYOND_LIMIT);
+    girdermoth_rto r;
+    WANT(girdermoth_rto_new(&r, 3000, 1000, 60000) == GIRDERMOTH_DONE);
+    WANT(r.rto == 3000 && r.rto_initial == 3000 && r.rto_min == 1000 && r.rto_max == 60000 && r.srtt == 0 && r.rttvar == 0 && r.no_update == 0);
+    girdermoth_reply m = girdermoth_rto_set_new_rtt(&r, 600);
+    WANT(m.yes && m.value == 600 && r.srtt == 600 && r.rttvar == 300 && r.rto == 1800 && girdermoth_rto_get_rto(&r) == 1800);
+    WANT(girdermoth_rto_set_rto(&r, 70000, true) == GIRDERMOTH_DONE && r.no_update == 1 && r.rto == 70000 && r.srtt == 600);
+    WANT(girdermoth_rto_new(&r, 0, 2, 1) == GIRDERMOTH_BAD_BOUNDS && girdermoth_rto_new(&r, 0, 2, UINT64_C(4294967296)) == GIRDERMOTH_BEYOND_LIMIT);
 }
 
 int main(void) {

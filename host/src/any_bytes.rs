@@ -1,7 +1,7 @@
 //! Senders, timers and estimators of any bytes: each call returns, answers the same twice, and writes nowhere but in what is lent to it. Under
 //! valgrind and ASan as well (host/check).
 
-use crate::any_calls::{CALLS, RTO_CALLS, TIMER_CALLS, Told, call, rto_call, timer_call};
+use crate::any_calls::{CALLS, RTO_CALLS, TIMER_CALLS, call, rto_call, timer_call};
 use crate::sys::{Rto, Sender, Timers};
 
 /// What is lent, with words on both sides that no call may touch.
@@ -113,23 +113,43 @@ fn any_bytes_are_timers() {
     assert!(refused > 400 && changed > 400, "few are refused, or few change a timer: {refused}, {changed}");
 }
 
+/// The words of an estimator, of which any are one: as floats, two that are not a number would differ.
+fn words(rto: &Rto) -> [u64; 7] {
+    let Rto { rto_initial, rto_min, rto_max, no_update, srtt, rttvar, rto } = *rto;
+    [rto_initial, rto_min, rto_max, no_update, srtt, rttvar.to_bits(), rto]
+}
+
 #[test]
-fn any_numbers_are_an_estimator() {
+fn any_bytes_are_an_estimator() {
     let mut rng = Rng(0x2545_F491_4F6C_DD1D);
-    let mut refused = 0;
+    let (mut refused, mut changed) = (0, 0);
+    // that means the same: the flag is 0 or 1
+    let plain = |rto: Rto| Rto { no_update: (rto.no_update != 0).into(), ..rto };
     for round in 0..400 {
-        let rto = Rto::of(&mut || if round % 2 == 0 { rng.word() } else { rng.number() });
-        for (which, name) in RTO_CALLS.into_iter().enumerate() {
+        let mut any = Rto::of(&mut || if round % 2 == 0 { rng.word() } else { rng.number() });
+        any.no_update *= u64::from(round % 3 > 0);
+        let start = Fenced { before: [FENCE; 8], lent: any, after: [FENCE; 8] };
+        for (which, (name, asks)) in RTO_CALLS.into_iter().enumerate() {
             let numbers = [rng.number(), rng.number(), rng.number()];
-            let told = rto_call(which, rto, numbers);
-            assert_eq!(told, rto_call(which, rto, numbers), "{name} answers otherwise the second time");
-            // but the one reply that is no refusal: a number alone
-            if told.len() > 1 && told[0] > 0 {
-                let rest = told[1..].strip_prefix(&rto.told()[..]).unwrap_or(&told[1..]);
-                assert!(told[0] <= 12 && rest.iter().all(|number| *number == 0), "{name} is refused, and answers {told:?} of {rto:?}");
+            let (mut one, mut other, mut simple) = (start.clone(), start.clone(), plain(start.lent));
+            let told = rto_call(which, &mut one.lent, numbers);
+            assert_eq!(told, rto_call(which, &mut other.lent, numbers), "{name} answers otherwise the second time");
+            assert_eq!(words(&one.lent), words(&other.lent), "{name} does otherwise the second time");
+            assert_eq!(told, rto_call(which, &mut simple, numbers), "{name} answers otherwise of one that means the same");
+            assert_eq!(words(&plain(one.lent)), words(&plain(simple)), "{name} does otherwise with one that means the same");
+            assert!(one.before == [FENCE; 8] && one.after == [FENCE; 8], "{name} writes beside the estimator");
+            if told[0] > 0 {
+                assert!(told[0] <= 2 && told[1..].iter().all(|number| *number == 0), "{name} is refused, and answers {told:?}");
                 refused += 1;
+            }
+            let (now, was) = (words(&one.lent), words(&start.lent));
+            if asks || told[0] > 0 {
+                assert_eq!(now, was, "{name} only asks, or is refused, and changes the estimator");
+            } else if name != "girdermoth_rto_new" {
+                changed += usize::from(now != was);
+                assert_eq!(now[..3], was[..3], "{name} changes a setting");
             }
         }
     }
-    assert!(refused > 400, "few are refused: {refused}");
+    assert!(refused > 400 && changed > 400, "few are refused, or few change the estimator: {refused}, {changed}");
 }

@@ -21,7 +21,7 @@ fn flag(byte: u8) -> u64 {
 
 impl Told for u64 {
     fn tell(&self, told: &mut Vec<u64>) {
-        told.push(*self);
+        told.extend([0, *self]);
     }
 }
 
@@ -85,26 +85,6 @@ impl Told for Counts {
     }
 }
 
-impl Told for Rto {
-    fn tell(&self, told: &mut Vec<u64>) {
-        told.push(self.rttvar.to_bits());
-        told.push(self.srtt);
-        told.push(self.rto);
-        told.push(self.rto_initial);
-        told.push(self.rto_min);
-        told.push(self.rto_max);
-        told.push(self.no_update.into());
-    }
-}
-
-impl Told for RtoReply {
-    fn tell(&self, told: &mut Vec<u64>) {
-        told.push(self.refusal.into());
-        self.rto.tell(told);
-        told.push(self.value);
-    }
-}
-
 impl Told for Expiry {
     fn tell(&self, told: &mut Vec<u64>) {
         told.push(self.refusal.into());
@@ -147,15 +127,7 @@ impl Sender {
 impl Rto {
     /// Of any words.
     pub(crate) fn of(word: &mut impl FnMut() -> u64) -> Self {
-        Self {
-            rttvar: f64::from_bits(word()),
-            srtt: word(),
-            rto: word(),
-            rto_initial: word(),
-            rto_min: word(),
-            rto_max: word(),
-            no_update: word() as u8,
-        }
+        Self { rto_initial: word(), rto_min: word(), rto_max: word(), no_update: word(), srtt: word(), rttvar: f64::from_bits(word()), rto: word() }
     }
 }
 
@@ -287,18 +259,23 @@ pub(crate) fn timer_call(which: usize, s: &mut Timers, [a, b, c, d, e]: [u64; 5]
     }
 }
 
-/// The calls on an estimator.
-pub(crate) const RTO_CALLS: [&str; 5] =
-    ["girdermoth_rto_new", "girdermoth_rto_measure", "girdermoth_rto_get", "girdermoth_rto_reset", "girdermoth_rto_set"];
+/// The calls on an estimator: the name, and whether it only asks.
+pub(crate) const RTO_CALLS: [(&str, bool); 5] = [
+    ("girdermoth_rto_new", false),
+    ("girdermoth_rto_set_new_rtt", false),
+    ("girdermoth_rto_get_rto", true),
+    ("girdermoth_rto_reset", false),
+    ("girdermoth_rto_set_rto", false),
+];
 
 /// A call on an estimator, with any numbers.
-pub(crate) fn rto_call(which: usize, r: Rto, [a, b, c]: [u64; 3]) -> Vec<u64> {
+pub(crate) fn rto_call(which: usize, s: &mut Rto, [a, b, c]: [u64; 3]) -> Vec<u64> {
     match which {
-        0 => girdermoth_rto_new(a, b, c).told(),
-        1 => girdermoth_rto_measure(r, a).told(),
-        2 => girdermoth_rto_get(r).told(),
-        3 => girdermoth_rto_reset(r).told(),
-        4 => girdermoth_rto_set(r, a, b % 2 == 1).told(),
+        0 => girdermoth_rto_new(s, a, b, c).told(),
+        1 => girdermoth_rto_set_new_rtt(s, a).told(),
+        2 => girdermoth_rto_get_rto(s).told(),
+        3 => girdermoth_rto_reset(s).told(),
+        4 => girdermoth_rto_set_rto(s, a, b % 2 == 1).told(),
         _ => unreachable!("there are {} calls", RTO_CALLS.len()),
     }
 }

@@ -17,41 +17,34 @@ impl RtoManager {
     ///
     /// Refused: [`BeyondLimit`](Refusal::BeyondLimit), [`BadBounds`](Refusal::BadBounds).
     pub fn new(rto_initial: u64, rto_min: u64, rto_max: u64) -> Result<RtoManager, Refusal> {
-        let made = sys::girdermoth_rto_new(rto_initial, rto_min, rto_max);
-        Refusal::check(made.refusal).map(|()| RtoManager(made.rto))
-    }
-
-    /// The estimator after a call; a refused one leaves it.
-    fn take(&mut self, reply: sys::RtoReply) -> Result<u64, Refusal> {
-        Refusal::check(reply.refusal)?;
-        self.0 = reply.rto;
-        Ok(reply.value)
+        let mut manager = RtoManager(sys::Rto::ZERO);
+        Refusal::check(sys::girdermoth_rto_new(&mut manager.0, rto_initial, rto_min, rto_max)).map(|()| manager)
     }
 
     /// Takes a measured round-trip time, and answers the smoothed one. While updates are off, nothing changes.
     ///
     /// Refused: [`BeyondLimit`](Refusal::BeyondLimit).
     pub fn set_new_rtt(&mut self, rtt: u64) -> Result<u64, Refusal> {
-        let reply = sys::girdermoth_rto_measure(self.0, rtt);
-        self.take(reply)
+        let reply = sys::girdermoth_rto_set_new_rtt(&mut self.0, rtt);
+        Refusal::check(reply.refusal).map(|()| reply.value)
     }
 
     /// The RTO.
     pub fn get_rto(&self) -> u64 {
-        sys::girdermoth_rto_get(self.0)
+        sys::girdermoth_rto_get_rto(&self.0)
     }
 
     /// Back to no measurement and the initial RTO. While updates are off, nothing changes.
     pub fn reset(&mut self) {
-        self.0 = sys::girdermoth_rto_reset(self.0).rto;
+        // never refused
+        sys::girdermoth_rto_reset(&mut self.0);
     }
 
     /// Sets the RTO, unclamped, and whether updates are off from now on.
     ///
     /// Refused: [`BeyondLimit`](Refusal::BeyondLimit).
     pub fn set_rto(&mut self, rto: u64, no_update: bool) -> Result<(), Refusal> {
-        let reply = sys::girdermoth_rto_set(self.0, rto, no_update);
-        self.take(reply).map(drop)
+        Refusal::check(sys::girdermoth_rto_set_rto(&mut self.0, rto, no_update))
     }
 
     /// The smoothed round-trip time; 0 before a first measurement, and then again where it falls to 0.

@@ -120,24 +120,22 @@ pub(crate) struct Counts {
     pub(crate) refusal: u8,
 }
 
+/// Any bytes are an estimator: but only girdermoth_rto_new makes one that means something. Updates are off where `no_update` is not 0.
 #[repr(C)]
 #[derive(Clone, Copy, Debug, PartialEq)]
 pub(crate) struct Rto {
-    pub(crate) rttvar: f64,
-    pub(crate) srtt: u64,
-    pub(crate) rto: u64,
     pub(crate) rto_initial: u64,
     pub(crate) rto_min: u64,
     pub(crate) rto_max: u64,
-    pub(crate) no_update: u8,
+    pub(crate) no_update: u64,
+    pub(crate) srtt: u64,
+    pub(crate) rttvar: f64,
+    pub(crate) rto: u64,
 }
 
-#[repr(C)]
-#[derive(Clone, Copy, Debug, PartialEq)]
-pub(crate) struct RtoReply {
-    pub(crate) rto: Rto,
-    pub(crate) value: u64,
-    pub(crate) refusal: u8,
+impl Rto {
+    /// All zero: not yet one that means something; `girdermoth_rto_new` makes it that.
+    pub(crate) const ZERO: Rto = Rto { rto_initial: 0, rto_min: 0, rto_max: 0, no_update: 0, srtt: 0, rttvar: 0.0, rto: 0 };
 }
 
 /// A flag is any byte but 0. `deadline` and `maximum` are told by their flags; `unused` says nothing, and is there so that every byte has a name.
@@ -195,8 +193,7 @@ layout!(Freed: 24, 8; number 0, bytes 8, stream 16, refusal 18, some 19, unorder
 layout!(Fragment: 72, 8; number 0, offset 8, deadline 16, since 24, tsn 32, length 36, protocol 40, value 44, nsent 48, stream 52, ssn 54, kind 56,
     refusal 57, some 58, has_deadline 59, has_since 60, unordered 61, beginning 62, ending 63, acked 64, abandoned 65, retransmit 66);
 layout!(Counts: 24, 8; messages 0, bytes 8, refusal 16);
-layout!(Rto: 56, 8; rttvar 0, srtt 8, rto 16, rto_initial 24, rto_min 32, rto_max 40, no_update 48);
-layout!(RtoReply: 72, 8; rto 0, value 56, refusal 64);
+layout!(Rto: 56, 8; rto_initial 0, rto_min 8, rto_max 16, no_update 24, srtt 32, rttvar 40, rto 48);
 layout!(Timer: 24, 8; deadline 0, maximum 8, retrans 16, has_deadline 20, has_maximum 21, suppressed 22, unused 23);
 layout!(Timers: 152, 8; entries 0, rto_max 144);
 layout!(Expiry: 8, 4; count 0, refusal 4, expired 5, failure 6);
@@ -249,12 +246,12 @@ unsafe extern "C" {
     pub(crate) safe fn girdermoth_high_threshold(s: &Sender, identifier: u16) -> Reply;
     pub(crate) safe fn girdermoth_statistics(s: &Sender, identifier: u16) -> Counts;
 
-    // ---- the round-trip estimator: a struct of numbers that goes in and comes back by value
-    pub(crate) safe fn girdermoth_rto_new(initial: u64, low: u64, high: u64) -> RtoReply;
-    pub(crate) safe fn girdermoth_rto_measure(r: Rto, rtt: u64) -> RtoReply;
-    pub(crate) safe fn girdermoth_rto_get(r: Rto) -> u64;
-    pub(crate) safe fn girdermoth_rto_reset(r: Rto) -> RtoReply;
-    pub(crate) safe fn girdermoth_rto_set(r: Rto, rto: u64, no_update: bool) -> RtoReply;
+    // ---- the round-trip estimator: one struct that the caller owns, and lends to each call as it does a sender
+    pub(crate) safe fn girdermoth_rto_new(s: &mut Rto, initial: u64, low: u64, high: u64) -> u8;
+    pub(crate) safe fn girdermoth_rto_set_new_rtt(s: &mut Rto, rtt: u64) -> Reply;
+    pub(crate) safe fn girdermoth_rto_get_rto(s: &Rto) -> u64;
+    pub(crate) safe fn girdermoth_rto_reset(s: &mut Rto) -> u8;
+    pub(crate) safe fn girdermoth_rto_set_rto(s: &mut Rto, rto: u64, no_update: bool) -> u8;
 
     // ---- the six timers: one struct that the caller owns, and lends to each call as it does a sender
     pub(crate) safe fn girdermoth_timers_new(s: &mut Timers, has_init: bool, init: u64, has_data: bool, data: u64, rto_max: u64) -> u8;

@@ -1,2 +1,2 @@
--- Flat: what a flat estimator means, and the flat reply of each answer.
-pub mod Flat
+-- Says: what each thin function says of the estimator behind its reference.
+pub mod Says

@@ -1,172 +1,61 @@
-// The round-trip estimator as a C caller holds it: numbers alone, that go in and come back by value. Any numbers at all mean an estimator; a
-// refused call hands back the one that was given.
-use rto::Made;
-use rto::Measured;
-use rto::RtoManager;
-use rto::Set;
-ghost use mathlib.Core.Path.{_≡_};
-ghost use Rattle.rto.specs.Rto.{newOf, measuredOf, getOf, resetOf, setOf};
-ghost use Rattle.limits.specs.Flags.{bitOf};
-ghost use Rattle.lent_rto.specs.Flat.{managerOf, flatRto, reply, flatMade, flatMeasured, flatSet};
+// The round-trip estimator as a host holds it: one struct, and thin functions over a reference to it. Each lends the words to a function of
+// `rto_cells`, and copies the head out and in. A host that hands over any bytes at all is safe: each bit pattern of the struct is an estimator. A
+// refused call leaves every number, creation too. A call that only changes the estimator answers a refusal's number, or 0.
+use rto_cells::Head;
+use rto_cells::Smoothed;
+ghost use Rattle.lent_rto.specs.Says.{New, SetNewRtt, GetRto, Reset, SetRto};
 
-// The flag is a byte, so that no byte that a caller may hand over is without a meaning.
+// Byte for byte the `girdermoth_rto` of include/girdermoth.h: the settings and the flag, and then what measurements change.
 #[repr(C)]
 pub struct Rto {
-    pub rttvar: f64,
-    pub srtt: u64,
-    pub rto: u64,
-    pub rto_initial: u64,
-    pub rto_min: u64,
-    pub rto_max: u64,
-    pub no_update: u8,
+    pub cells: [u64; 4],
+    pub head: Head,
 }
 
-#[repr(C)]
-pub struct RtoReply {
-    pub rto: Rto,
-    pub value: u64,
-    pub refusal: u8,
-}
-
-fn flag(b: bool) -> u8
-    ensures { λ r. ⌜ r ≡ bitOf b ⌝ }
-{
-    if b {
-        return 1;
-    }
-    0
-}
-
-fn unpacked(r: Rto) -> RtoManager
-    ensures { λ m. ⌜ m ≡ managerOf r ⌝ }
-{
-    RtoManager {
-        srtt: r.srtt,
-        rttvar: r.rttvar,
-        rto: r.rto,
-        no_update: r.no_update != 0,
-        rto_initial: r.rto_initial,
-        rto_min: r.rto_min,
-        rto_max: r.rto_max,
-    }
-}
-
-fn packed(m: RtoManager) -> Rto
-    ensures { λ r. ⌜ r ≡ flatRto m ⌝ }
-{
-    let no_update = flag(m.no_update);
-    Rto {
-        rttvar: m.rttvar,
-        srtt: m.srtt,
-        rto: m.rto,
-        rto_initial: m.rto_initial,
-        rto_min: m.rto_min,
-        rto_max: m.rto_max,
-        no_update: no_update,
-    }
-}
-
-fn replied(m: RtoManager, value: u64) -> RtoReply
-    ensures { λ r. ⌜ r ≡ reply (flatRto m) value 0 ⌝ }
-{
-    let rto = packed(m);
-    RtoReply {
-        rto: rto,
-        value: value,
-        refusal: 0,
-    }
-}
-
-fn refused(r: Rto, number: u8) -> RtoReply
-    ensures { λ y. ⌜ y ≡ reply r 0 number ⌝ }
-{
-    RtoReply {
-        rto: r,
-        value: 0,
-        refusal: number,
-    }
-}
-
-fn made(a: Made) -> RtoReply
-    ensures { λ r. ⌜ r ≡ flatMade a ⌝ }
-{
-    match a {
-        Made::Ready(m) => replied(m, 0),
-        Made::Refused(n) => refused(
-            Rto {
-                rttvar: 0.0,
-                srtt: 0,
-                rto: 0,
-                rto_initial: 0,
-                rto_min: 0,
-                rto_max: 0,
-                no_update: 0,
-            },
-            n,
-        ),
-    }
-}
-
-fn measured(r: Rto, a: Measured) -> RtoReply
-    ensures { λ y. ⌜ y ≡ flatMeasured r a ⌝ }
-{
-    match a {
-        Measured::Srtt(srtt, m) => replied(m, srtt),
-        Measured::Refused(n) => refused(r, n),
-    }
-}
-
-fn set(r: Rto, a: Set) -> RtoReply
-    ensures { λ y. ⌜ y ≡ flatSet r a ⌝ }
-{
-    match a {
-        Set::Kept(m) => replied(m, 0),
-        Set::Refused(n) => refused(r, n),
-    }
-}
-
-// The initial RTO is not clamped. Refusals: 1, 2; then all numbers of the estimator are 0.
+// An estimator without a measurement, whatever the bytes were. The initial RTO is not clamped. Refusals: 1, 2.
 #[no_mangle]
-pub extern "C" fn girdermoth_rto_new(initial: u64, low: u64, high: u64) -> RtoReply
-    ensures { λ r. ⌜ r ≡ flatMade (newOf initial low high) ⌝ }
+pub extern "C" fn girdermoth_rto_new(s: &mut Rto, initial: u64, low: u64, high: u64) -> u8
+    ensures { λ r. ⌜ New initial low high (now (s .entry)) (now (s .exit)) r ⌝ }
 {
-    let answer = RtoManager::new(initial, low, high);
-    made(answer)
+    let r = rto_cells::new(s.head, &mut s.cells, initial, low, high);
+    s.head = r.head;
+    r.reply
 }
 
-// The value is the srtt. Refusal: 1.
+// Takes a measured time; the value is the smoothed one. Refusal: 1.
 #[no_mangle]
-pub extern "C" fn girdermoth_rto_measure(r: Rto, rtt: u64) -> RtoReply
-    ensures { λ y. ⌜ y ≡ flatMeasured r (measuredOf (managerOf r) rtt) ⌝ }
+pub extern "C" fn girdermoth_rto_set_new_rtt(s: &mut Rto, rtt: u64) -> Smoothed
+    ensures { λ r. ⌜ SetNewRtt rtt (now (s .entry)) (now (s .exit)) r ⌝ }
 {
-    let manager = unpacked(r);
-    let answer = manager.set_new_rtt(rtt);
-    measured(r, answer)
+    let r = rto_cells::set_new_rtt(s.head, &mut s.cells, rtt);
+    s.head = r.head;
+    r.reply
 }
 
+// The RTO as it stands.
 #[no_mangle]
-pub extern "C" fn girdermoth_rto_get(r: Rto) -> u64
-    ensures { λ x. ⌜ x ≡ getOf (managerOf r) ⌝ }
+pub extern "C" fn girdermoth_rto_get_rto(s: &Rto) -> u64
+    ensures { λ r. ⌜ GetRto (now (s .entry)) r ⌝ }
 {
-    let manager = unpacked(r);
-    manager.get_rto()
+    rto_cells::get_rto(s.head, &s.cells)
 }
 
+// Back to no measurement and the initial RTO; nothing changes while updates are off. Never refused.
 #[no_mangle]
-pub extern "C" fn girdermoth_rto_reset(r: Rto) -> RtoReply
-    ensures { λ y. ⌜ y ≡ reply (flatRto (resetOf (managerOf r))) 0 0 ⌝ }
+pub extern "C" fn girdermoth_rto_reset(s: &mut Rto) -> u8
+    ensures { λ r. ⌜ Reset (now (s .entry)) (now (s .exit)) r ⌝ }
 {
-    let manager = unpacked(r);
-    let after = manager.reset();
-    replied(after, 0)
+    let r = rto_cells::reset(s.head, &mut s.cells);
+    s.head = r.head;
+    r.reply
 }
 
 // The RTO is kept as it is given, and holds while `no_update` is set. Refusal: 1.
 #[no_mangle]
-pub extern "C" fn girdermoth_rto_set(r: Rto, rto: u64, no_update: bool) -> RtoReply
-    ensures { λ y. ⌜ y ≡ flatSet r (setOf (managerOf r) rto «no_update») ⌝ }
+pub extern "C" fn girdermoth_rto_set_rto(s: &mut Rto, rto: u64, no_update: bool) -> u8
+    ensures { λ r. ⌜ SetRto rto «no_update» (now (s .entry)) (now (s .exit)) r ⌝ }
 {
-    let manager = unpacked(r);
-    let answer = manager.set_rto(rto, no_update);
-    set(r, answer)
+    let r = rto_cells::set_rto(s.head, &mut s.cells, rto, no_update);
+    s.head = r.head;
+    r.reply
 }
