@@ -39,7 +39,7 @@ fn chunk(f: c::Fragment) -> Option<Chunk> {
         tsn: f.tsn,
         ssn: f.ssn,
         stream: f.stream,
-        number: f.number,
+        number: f.message_id,
         length: u64::from(f.length),
     })
 }
@@ -58,7 +58,7 @@ impl Side for Ours {
         for stream in 1..=2 {
             c::girdermoth_open_stream(&mut sender, stream, payload);
             if lifetime > 0 {
-                c::girdermoth_set_reliability(&mut sender, stream, false, TIMED, lifetime);
+                c::girdermoth_set_reliability_params(&mut sender, stream, false, TIMED, lifetime);
             }
         }
         Ours { sender, list: [0; 256], store: Vec::new(), place: 0 }
@@ -75,16 +75,16 @@ impl Side for Ours {
         self.advance(length);
     }
     fn send(&mut self, now: u64) -> Option<Chunk> {
-        chunk(c::girdermoth_send(&mut self.sender, now))
+        chunk(c::girdermoth_send_next(&mut self.sender, now))
     }
     fn acknowledge(&mut self, tsn: u32) -> u64 {
-        c::girdermoth_acknowledge(&mut self.sender, tsn).value
+        c::girdermoth_mark_as_acked(&mut self.sender, tsn).value
     }
     fn pop(&mut self, tsn: u32) -> Option<Chunk> {
         chunk(c::girdermoth_pop(&mut self.sender, tsn))
     }
     fn release(&mut self, stream: u16, bytes: i64) -> bool {
-        c::girdermoth_release(&mut self.sender, stream, bytes).yes != 0
+        c::girdermoth_on_buffer_released(&mut self.sender, stream, bytes).yes != 0
     }
     fn abandon(&mut self, tsn: u32) -> Option<Freed> {
         freed(c::girdermoth_abandon(&mut self.sender, tsn))
@@ -106,13 +106,13 @@ impl Side for Ours {
         freed(c::girdermoth_expire_pending_tail(&mut self.sender, now))
     }
     fn start_lifetimes(&mut self, now: u64) {
-        c::girdermoth_start_lifetimes(&mut self.sender, now);
+        c::girdermoth_start_timed_messages(&mut self.sender, now);
     }
     fn in_flight(&self) -> usize {
-        c::girdermoth_inflight_length(&self.sender).value as usize
+        c::girdermoth_inflight_len(&self.sender).value as usize
     }
     fn pending(&self) -> usize {
-        c::girdermoth_pending_length(&self.sender).value as usize
+        c::girdermoth_pending_len(&self.sender).value as usize
     }
 }
 
@@ -151,7 +151,7 @@ impl Clockwork for OurTimers {
         time
     }
     fn measure(&mut self, rtt: u64) -> u64 {
-        let reply = c::girdermoth_rto_measure(self.rto, rtt);
+        let reply = c::girdermoth_rto_set_new_rtt(self.rto, rtt);
         self.rto = reply.rto;
         reply.value
     }

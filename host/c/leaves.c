@@ -1,4 +1,4 @@
-// 01's examples of timers and RTO, from C; and garbage bytes in both: each call returns, the same twice, and a refused one changes no byte.
+// The worked examples of timers and RTO, from C; and garbage bytes in both: each call returns, the same twice, and a refused one changes no byte.
 #include "girdermoth.h"
 #include <stdio.h>
 #include <stdlib.h>
@@ -16,14 +16,14 @@ static void garbage(void *p, size_t n) { for (size_t i = 0; i < n; i++) ((uint8_
 static void estimates(void) {
     static const uint64_t rows[][3] = {{600, 600, 1800}, {1000, 650, 1950}, {101, 581, 2105}}, falls[][3] = {{1, 1, 1000}, {0, 0, 1000}, {500, 500, 1500}};
     girdermoth_rto_reply r = girdermoth_rto_new(3000, 1000, 60000), q = r;
-    want(r.refusal == 0 && girdermoth_rto_get(r.rto) == 3000, "new");
-    for (int i = 0; i < 3; i++) { r = girdermoth_rto_measure(r.rto, rows[i][0]); want(r.value == rows[i][1] && girdermoth_rto_get(r.rto) == rows[i][2], "measure"); }
+    want(r.refusal == 0 && girdermoth_rto_get_rto(r.rto) == 3000, "new");
+    for (int i = 0; i < 3; i++) { r = girdermoth_rto_set_new_rtt(r.rto, rows[i][0]); want(r.value == rows[i][1] && girdermoth_rto_get_rto(r.rto) == rows[i][2], "measure"); }
     want(r.rto.rttvar == 381.0, "rttvar");
-    for (int i = 0; i < 3; i++) { q = girdermoth_rto_measure(q.rto, falls[i][0]); want(q.value == falls[i][1] && q.rto.rto == falls[i][2], "measure from 0"); }
+    for (int i = 0; i < 3; i++) { q = girdermoth_rto_set_new_rtt(q.rto, falls[i][0]); want(q.value == falls[i][1] && q.rto.rto == falls[i][2], "measure from 0"); }
     want(girdermoth_rto_new(1, 2, 1).refusal == GIRDERMOTH_BAD_BOUNDS && girdermoth_rto_new(1, 2, UINT64_C(1) << 32).refusal == GIRDERMOTH_BEYOND_LIMIT, "bounds");
-    q = girdermoth_rto_measure(r.rto, UINT64_C(1) << 32);
+    q = girdermoth_rto_set_new_rtt(r.rto, UINT64_C(1) << 32);
     want(q.refusal == GIRDERMOTH_BEYOND_LIMIT && memcmp(&q.rto, &r.rto, 49) == 0, "a refused measurement");
-    q = girdermoth_rto_set(r.rto, 7, true);
+    q = girdermoth_rto_set_rto(r.rto, 7, true);
     want(q.refusal == 0 && q.rto.rto == 7 && girdermoth_rto_reset(q.rto).rto.rto == 7 && girdermoth_rto_reset(r.rto).rto.rto == 3000, "set and reset");
 }
 

@@ -100,7 +100,7 @@ static void gone(uint64_t number, int end, uint16_t stream, uint64_t bytes) {
     want(messages[number - first_number].end == OPEN, "a message ended twice");
     messages[number - first_number].end = end;
     counts[end == DROPPED ? UNSENT : end == CUT ? CUTS : LATE]++;
-    girdermoth_release(&s, stream, (int64_t)bytes);
+    girdermoth_on_buffer_released(&s, stream, (int64_t)bytes);
 }
 
 static void give_up(uint32_t tsn) {
@@ -108,7 +108,7 @@ static void give_up(uint32_t tsn) {
     if (c.abandoned) return;
     uint64_t next = girdermoth_next_tsn(&s).value;
     girdermoth_freed freed = girdermoth_abandon(&s, tsn);
-    gone(c.number, girdermoth_next_tsn(&s).value == next ? GIVEN_UP : CUT, freed.stream, freed.bytes);   // a terminator was filed, or not
+    gone(c.message_id, girdermoth_next_tsn(&s).value == next ? GIVEN_UP : CUT, freed.stream, freed.bytes);   // a terminator was filed, or not
 }
 
 static void transmit(girdermoth_fragment c) {
@@ -124,8 +124,8 @@ static void expire(void) {
     for (bool more = true; more;) {
         girdermoth_fragment head = girdermoth_peek_pending(&s);
         girdermoth_freed unsent = girdermoth_expire_pending(&s, now), tail = girdermoth_expire_pending_tail(&s, now);
-        if (unsent.some) gone(head.number, DROPPED, unsent.stream, unsent.bytes);
-        if (tail.some) gone(tail.number, CUT, tail.stream, tail.bytes);
+        if (unsent.some) gone(head.message_id, DROPPED, unsent.stream, unsent.bytes);
+        if (tail.some) gone(tail.message_id, CUT, tail.stream, tail.bytes);
         more = unsent.some || tail.some;
     }
 }
@@ -143,12 +143,12 @@ static void forward(bool once_more) {
 }
 
 static void loop(void) {
-    static uint32_t list[256];
+    static uint32_t list[GIRDERMOTH_FLIGHT_ROOM];
     girdermoth_expiry t3 = {0};
     if (girdermoth_timer_get(&timers, GIRDERMOTH_T3_RTX).yes) t3 = girdermoth_timer_is_expired(&timers, GIRDERMOTH_T3_RTX, now);
-    if (t3.expired) { counts[TIMEOUTS]++; girdermoth_mark_all(&s); girdermoth_timer_start(&timers, GIRDERMOTH_T3_RTX, now, girdermoth_rto_get(rto)); }
-    girdermoth_start_lifetimes(&s, now);
-    girdermoth_reply expired = girdermoth_expired_inflight(&s, list, 256, now);
+    if (t3.expired) { counts[TIMEOUTS]++; girdermoth_mark_all_to_retransmit(&s); girdermoth_timer_start(&timers, GIRDERMOTH_T3_RTX, now, girdermoth_rto_get_rto(rto)); }
+    girdermoth_start_timed_messages(&s, now);
+    girdermoth_reply expired = girdermoth_expired_inflight(&s, list, GIRDERMOTH_FLIGHT_ROOM, now);
     for (uint64_t i = 0; i < expired.value; i++) give_up(list[i]);
     for (uint32_t t = oldest; after((uint32_t)girdermoth_next_tsn(&s).value, t); t++) {
         girdermoth_fragment c = girdermoth_get(&s, t);
@@ -160,34 +160,34 @@ static void loop(void) {
     }
     while (girdermoth_inflight_bytes(&s).value < window) {
         expire();
-        girdermoth_fragment c = girdermoth_send(&s, now);
+        girdermoth_fragment c = girdermoth_send_next(&s, now);
         counts[FULL_FLIGHTS] += c.refusal == GIRDERMOTH_FLIGHT_FULL;
         if (!c.some) break;
         sent[c.tsn % SEEN] = missing[c.tsn % SEEN] = again[c.tsn % SEEN] = 0;
         transmit(c);
     }
     forward(t3.expired);
-    if (girdermoth_inflight_length(&s).value) girdermoth_timer_restart_if_stale(&timers, GIRDERMOTH_T3_RTX, now, girdermoth_rto_get(rto));
+    if (girdermoth_inflight_len(&s).value) girdermoth_timer_restart_if_stale(&timers, GIRDERMOTH_T3_RTX, now, girdermoth_rto_get_rto(rto));
     else girdermoth_timer_stop(&timers, GIRDERMOTH_T3_RTX);
 }
 
 static void acknowledged(uint32_t tsn) {
     girdermoth_fragment c = girdermoth_get(&s, tsn);
     if (!c.some || c.acked) return;
-    girdermoth_release(&s, c.stream, (int64_t)girdermoth_acknowledge(&s, tsn).value);
+    girdermoth_on_buffer_released(&s, c.stream, (int64_t)girdermoth_mark_as_acked(&s, tsn).value);
     girdermoth_timer_stop(&timers, GIRDERMOTH_T3_RTX);
-    if (c.has_since && sent[tsn % SEEN] == 1) rto = girdermoth_rto_measure(rto, now - c.since).rto;
+    if (c.has_since && sent[tsn % SEEN] == 1) rto = girdermoth_rto_set_new_rtt(rto, now - c.since).rto;
 }
 
 static void sack(const packet *p) {
-    for (; girdermoth_inflight_length(&s).value && !after(oldest, p->cumulative); oldest++) { acknowledged(oldest); want(girdermoth_pop(&s, oldest).some, "the oldest was not popped"); }
+    for (; girdermoth_inflight_len(&s).value && !after(oldest, p->cumulative); oldest++) { acknowledged(oldest); want(girdermoth_pop(&s, oldest).some, "the oldest was not popped"); }
     for (int i = 0; i < p->count; i++) for (uint32_t at = p->pairs[i][0]; at <= p->pairs[i][1]; at++) acknowledged(p->cumulative + at);
     if (p->count) for (uint32_t t = oldest; after(p->cumulative + p->pairs[p->count - 1][1], t); t++) again[t % SEEN] |= ++missing[t % SEEN] == 3;
 }
 
 static void write_one(uint16_t stream, bool fresh, bool unordered, uint8_t kind, uint32_t value) {
     static bool is_unordered[STREAMS];
-    if (fresh) { is_unordered[stream] = unordered; girdermoth_set_reliability(&s, stream, unordered, kind, value); }
+    if (fresh) { is_unordered[stream] = unordered; girdermoth_set_reliability_params(&s, stream, unordered, kind, value); }
     uint32_t most = rnd() % 3 ? 60 : LONGEST - 3, length = 4 + (uint32_t)(rnd() % most), protocol = rnd() % 10 ? 53 : 50;
     uint8_t refusal = girdermoth_write(&s, stream, protocol, written * LONGEST, length).refusal;
     want(refusal == GIRDERMOTH_DONE || refusal == GIRDERMOTH_RING_FULL, "a write was refused");
@@ -211,7 +211,7 @@ static void run(void) {
     for (uint16_t i = 0; i < STREAMS; i++) { last[i] = -1; girdermoth_open_stream(&s, i, 10 + (uint32_t)rnd() % (PAYLOAD - 9)); }
     int rounds = 0;
     for (bool closing = false; rounds < ROUNDS; rounds++) {
-        bool idle = girdermoth_pending_length(&s).value == 0 && girdermoth_inflight_length(&s).value == 0;
+        bool idle = girdermoth_pending_len(&s).value == 0 && girdermoth_inflight_len(&s).value == 0;
         if (idle && written >= MESSAGES) {
             if (closing) break;
             closing = true;

@@ -32,13 +32,13 @@ impl RtoManager {
     ///
     /// Refused: [`BeyondLimit`](Refusal::BeyondLimit).
     pub fn set_new_rtt(&mut self, rtt: u64) -> Result<u64, Refusal> {
-        let reply = sys::girdermoth_rto_measure(self.0, rtt);
+        let reply = sys::girdermoth_rto_set_new_rtt(self.0, rtt);
         self.take(reply)
     }
 
     /// The RTO.
     pub fn get_rto(&self) -> u64 {
-        sys::girdermoth_rto_get(self.0)
+        sys::girdermoth_rto_get_rto(self.0)
     }
 
     /// Back to no measurement and the initial RTO. While updates are off, nothing changes.
@@ -50,7 +50,7 @@ impl RtoManager {
     ///
     /// Refused: [`BeyondLimit`](Refusal::BeyondLimit).
     pub fn set_rto(&mut self, rto: u64, no_update: bool) -> Result<(), Refusal> {
-        let reply = sys::girdermoth_rto_set(self.0, rto, no_update);
+        let reply = sys::girdermoth_rto_set_rto(self.0, rto, no_update);
         self.take(reply).map(drop)
     }
 

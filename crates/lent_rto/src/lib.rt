@@ -136,7 +136,7 @@ pub extern "C" fn girdermoth_rto_new(initial: u64, low: u64, high: u64) -> RtoRe
 
 // The value is the srtt. Refusal: 1.
 #[no_mangle]
-pub extern "C" fn girdermoth_rto_measure(r: Rto, rtt: u64) -> RtoReply
+pub extern "C" fn girdermoth_rto_set_new_rtt(r: Rto, rtt: u64) -> RtoReply
     ensures { λ y. ⌜ y ≡ flatMeasured r (measuredOf (managerOf r) rtt) ⌝ }
 {
     let manager = unpacked(r);
@@ -145,7 +145,7 @@ pub extern "C" fn girdermoth_rto_measure(r: Rto, rtt: u64) -> RtoReply
 }
 
 #[no_mangle]
-pub extern "C" fn girdermoth_rto_get(r: Rto) -> u64
+pub extern "C" fn girdermoth_rto_get_rto(r: Rto) -> u64
     ensures { λ x. ⌜ x ≡ getOf (managerOf r) ⌝ }
 {
     let manager = unpacked(r);
@@ -163,7 +163,7 @@ pub extern "C" fn girdermoth_rto_reset(r: Rto) -> RtoReply
 
 // The RTO is kept as it is given, and holds while `no_update` is set. Refusal: 1.
 #[no_mangle]
-pub extern "C" fn girdermoth_rto_set(r: Rto, rto: u64, no_update: bool) -> RtoReply
+pub extern "C" fn girdermoth_rto_set_rto(r: Rto, rto: u64, no_update: bool) -> RtoReply
     ensures { λ y. ⌜ y ≡ flatSet r (setOf (managerOf r) rto «no_update») ⌝ }
 {
     let manager = unpacked(r);
