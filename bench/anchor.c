@@ -69,7 +69,7 @@ reply anchor_open_stream(sender *s, uint16_t identifier, uint32_t maximum) {
     return told(false);
 }
 
-reply anchor_set_reliability(sender *s, uint16_t identifier, bool unordered, uint8_t kind, uint32_t value) {
+reply anchor_set_reliability_params(sender *s, uint16_t identifier, bool unordered, uint8_t kind, uint32_t value) {
     word *slot = find(s, identifier);
     if (!slot) return refused(GIRDERMOTH_NOT_OPEN);
     word kept = slot[SETTINGS] & ((UINT64_C(1) << STREAM_KIND_AT) - 1);
@@ -78,7 +78,7 @@ reply anchor_set_reliability(sender *s, uint16_t identifier, bool unordered, uin
     return told(false);
 }
 
-reply anchor_release(sender *s, uint16_t identifier, int64_t released) {
+reply anchor_on_buffer_released(sender *s, uint16_t identifier, int64_t released) {
     word *slot = find(s, identifier);
     if (!slot) return refused(GIRDERMOTH_NOT_OPEN);
     if (released <= 0) return told(false);
@@ -120,7 +120,7 @@ static inline void set_flags(fragment *f, word marks) {
 static inline fragment fragment_of(uint32_t tsn, const word *slot) {
     word types = slot[TYPES], sizes = slot[SIZES], marks = slot[MARKS];
     fragment f = {
-        .number = slot[NUMBER], .offset = slot[OFFSET], .deadline = slot[DEADLINE], .since = slot[SINCE],
+        .message_id = slot[NUMBER], .offset = slot[OFFSET], .deadline = slot[DEADLINE], .since = slot[SINCE],
         .tsn = tsn, .length = (uint32_t)sizes, .protocol = (uint32_t)types, .value = types >> 32, .nsent = sizes >> 32,
         .stream = (uint16_t)marks, .ssn = (uint16_t)(marks >> SSN_AT), .kind = (uint8_t)(marks >> KIND_AT), .some = true,
     };
@@ -197,13 +197,13 @@ static inline void start_all(sender *s, word clock) {
     s->head.next_unstarted = s->head.next_message;
 }
 
-reply anchor_start_lifetimes(sender *s, uint64_t clock) {
+reply anchor_start_timed_messages(sender *s, uint64_t clock) {
     if (clock > GIRDERMOTH_CLOCK_MAX) return refused(GIRDERMOTH_BEYOND_LIMIT);
     start_all(s, clock);
     return told(false);
 }
 
-fragment anchor_send(sender *s, uint64_t clock) {
+fragment anchor_send_next(sender *s, uint64_t clock) {
     if (clock > GIRDERMOTH_CLOCK_MAX) return (fragment){.refusal = GIRDERMOTH_BEYOND_LIMIT};
     head *h = &s->head;
     bool unordered = unordered_is_ahead(h);
@@ -304,7 +304,7 @@ freed anchor_expire_pending_tail(sender *s, uint64_t clock) {
     if (!*r.len || marks & BEGINNING || !is_overdue(slot, clock)) return (freed){0};
     // what is left of it in flight is at the end
     word bytes = give_up_entries(s, s->head.flight_len, message);
-    return (freed){.number = message, .bytes = bytes + give_up_rest(s, r, message), .stream = (uint16_t)marks, .some = true};
+    return (freed){.message_id = message, .bytes = bytes + give_up_rest(s, r, message), .stream = (uint16_t)marks, .some = true};
 }
 
 freed anchor_abandon(sender *s, uint32_t tsn) {
@@ -322,7 +322,7 @@ freed anchor_abandon(sender *s, uint32_t tsn) {
 
 // ---- the flight
 
-reply anchor_acknowledge(sender *s, uint32_t tsn) {
+reply anchor_mark_as_acked(sender *s, uint32_t tsn) {
     uint32_t i = tsn - s->head.oldest;
     if (i >= s->head.flight_len) return number(0);
     word *slot = flying(s, i), sizes = slot[SIZES];
@@ -347,7 +347,7 @@ static inline void mark(word *slot, word n) {
     for (; n; n--, slot += SLOT) slot[MARKS] |= slot[MARKS] & (ACKED | ABANDONED) ? 0 : RETRANSMIT;
 }
 
-reply anchor_mark_all(sender *s) {
+reply anchor_mark_all_to_retransmit(sender *s) {
     word front = in_front(s->head.flight_start, s->head.flight_len);
     mark(flying(s, 0), front);
     mark(s->cells + FLIGHT_RING, s->head.flight_len - front);
@@ -389,8 +389,8 @@ fragment anchor_get(const sender *s, uint32_t tsn) {
     return fragment_of(tsn, flying((sender *)s, i));
 }
 
-reply anchor_pending_length(const sender *s) { return number(s->head.unordered_len + s->head.ordered_len); }
-reply anchor_inflight_length(const sender *s) { return number(s->head.flight_len); }
+reply anchor_pending_len(const sender *s) { return number(s->head.unordered_len + s->head.ordered_len); }
+reply anchor_inflight_len(const sender *s) { return number(s->head.flight_len); }
 
 static inline bool any_of(const word *slot, word n, uint16_t stream) {
     for (; n; n--, slot += SLOT)
@@ -415,7 +415,7 @@ reply anchor_contains_stream(const sender *s, uint16_t identifier) {
     return told(pending_has_stream(s, identifier) || has_stream(s->cells + FLIGHT_RING, s->head.flight_start, s->head.flight_len, identifier));
 }
 
-reply anchor_earliest_outstanding(const sender *s) {
+reply anchor_earliest_outstanding_tsn(const sender *s) {
     for (word i = 0; i < s->head.flight_len; i++)
         if (!(flying((sender *)s, i)[MARKS] & (ACKED | ABANDONED))) return number(s->head.oldest + (uint32_t)i);
     return told(false);

@@ -23,15 +23,15 @@ void run(void) {
     girdermoth_open_stream(&s, 1, LENGTH);
     for (int i = 0; i < IN_FLIGHT; i++) {
         girdermoth_write(&s, 1, 53, 0, LENGTH);
-        girdermoth_send(&s, 5);
+        girdermoth_send_next(&s, 5);
     }
     measured();
     for (uint32_t tsn = 1; tsn <= CYCLES; tsn++) {
         girdermoth_write(&s, 1, 53, 0, LENGTH);
-        girdermoth_send(&s, 6);
-        girdermoth_reply freed = girdermoth_acknowledge(&s, tsn);
+        girdermoth_send_next(&s, 6);
+        girdermoth_reply freed = girdermoth_mark_as_acked(&s, tsn);
         girdermoth_pop(&s, tsn);
-        girdermoth_release(&s, 1, (int64_t)freed.value);
+        girdermoth_on_buffer_released(&s, 1, (int64_t)freed.value);
     }
     measured();
     __asm__ volatile("syscall" : : "a"(60), "D"(0));

@@ -29,6 +29,16 @@ fn prove(root: &Path, name: &str) -> PathBuf {
     root.join("target/staticlib").join(format!("lib{name}.a"))
 }
 
+/// On Arm the same modules are compiled by tools/archives, for tests: the line to use.
+fn on_arm(root: &Path) -> String {
+    let archives = CRATES.map(|name| root.join(format!("target/archives/lib{name}.a")).display().to_string()).join(":");
+    let build = root.join("tools/archives");
+    format!(
+        "`rt staticlib` compiles for x86-64 Linux only. On Arm, for tests, use:\n\n    {} && export GIRDERMOTH_ARCHIVE={archives}\n",
+        build.display()
+    )
+}
+
 fn main() {
     println!("cargo::rerun-if-env-changed=GIRDERMOTH_ARCHIVE");
     let out = PathBuf::from(env::var_os("OUT_DIR").expect("cargo sets OUT_DIR"));
@@ -39,11 +49,14 @@ fn main() {
             paths
         }
         None => {
-            if env::var("CARGO_CFG_TARGET_ARCH").as_deref() != Ok("x86_64") || env::var("CARGO_CFG_TARGET_OS").as_deref() != Ok("linux") {
-                fail("`rt staticlib` compiles for x86-64 Linux only; name archives for another target in GIRDERMOTH_ARCHIVE");
-            }
             let here = PathBuf::from(env::var_os("CARGO_MANIFEST_DIR").expect("cargo sets CARGO_MANIFEST_DIR"));
             let Some(root) = here.parent() else { fail("the crate must stand in the repository, beside crates/") };
+            let (machine, system) = (env::var("CARGO_CFG_TARGET_ARCH"), env::var("CARGO_CFG_TARGET_OS"));
+            match (machine.as_deref(), system.as_deref()) {
+                (Ok("x86_64"), Ok("linux")) => (),
+                (Ok("aarch64"), Ok("linux")) => fail(&on_arm(root)),
+                _ => fail("`rt staticlib` compiles for x86-64 Linux only; name archives for another target in GIRDERMOTH_ARCHIVE"),
+            }
             if !root.join("crates.txt").is_file() {
                 fail(&format!("{} has no crates.txt: build in the repository, or name the archives in GIRDERMOTH_ARCHIVE", root.display()));
             }

@@ -6,6 +6,23 @@
 // overlap in time; a lent list must not lie within the sender.
 //
 // A reply has a refusal: 0 is done, any other is one of the numbers below. A refused call changes nothing, and all else in its reply is 0.
+//
+// What a host does, each time that a packet has come, a timer has fired or a message was written (docs/HOST.md has the reasons, host/c/session.c is
+// such a host):
+//   1. girdermoth_start_timed_messages;
+//   2. girdermoth_expired_inflight, and girdermoth_abandon for each TSN of its list that is not abandoned;
+//   3. what is to be sent again, by girdermoth_get;
+//   4. before EACH new chunk girdermoth_expire_pending and girdermoth_expire_pending_tail until neither frees anything; then girdermoth_send_next;
+//   5. FORWARD-TSN for what is abandoned at the front of the flight;
+//   6. the timer T3-RTX runs while anything is in flight.
+// When a SACK comes: girdermoth_mark_as_acked for each TSN that it has, girdermoth_pop for the oldest ones up to its cumulative TSN, and what they
+// held, or what an expiry or an abandonment freed, goes to girdermoth_on_buffer_released.
+//
+// A TERMINATOR is an entry of the flight that stands for the unsent rest of a message that was given up: it has the message's last TSN, no bytes,
+// `beginning` unset, `ending` and `abandoned` set, and `nsent` 0. It is never sent as a DATA chunk. The peer hears of it, and of all else that is
+// abandoned, by FORWARD-TSN (RFC 3758, chunk type 192), which the host writes: from the oldest TSN on while the entry is abandoned; the last of
+// these is the new cumulative TSN, and each stream with an ordered one among them is told with its last SSN. It goes again whenever T3-RTX fires,
+// until a SACK has passed it. Without it the peer waits for ever.
 #ifndef GIRDERMOTH_H
 #define GIRDERMOTH_H
 
@@ -36,10 +53,26 @@ enum {
     GIRDERMOTH_COUNT_FULL = 12     // an expiry that would be counted finds the timer's count at 4,294,967,295
 };
 
-// Kinds of reliability; any other is as GIRDERMOTH_RELIABLE.
+// Kinds of reliability; any other is as GIRDERMOTH_RELIABLE. The limit of REXMIT is the host's to keep: the sender does not know what is sent again.
 enum { GIRDERMOTH_RELIABLE = 0, GIRDERMOTH_REXMIT = 1, GIRDERMOTH_TIMED = 2 };
 
+// The release, as in host/Cargo.toml.
+#define GIRDERMOTH_VERSION "0.1.0"
+
+// The latest clock; the longest message and the largest offset of one, in bytes; the largest payload of a chunk; the most that a stream buffers.
 #define GIRDERMOTH_CLOCK_MAX UINT64_C(1099511627776)
+#define GIRDERMOTH_MESSAGE_MAX 65536
+#define GIRDERMOTH_OFFSET_MAX UINT64_C(4294967295)
+#define GIRDERMOTH_PAYLOAD_MAX 65515
+#define GIRDERMOTH_BUFFERED_MAX UINT64_C(4294967295)
+// The largest interval, RTO setting and measured round-trip time, in milliseconds; the most that a timer counts.
+#define GIRDERMOTH_SETTING_MAX UINT64_C(4294967295)
+#define GIRDERMOTH_COUNT_MAX UINT64_C(4294967295)
+// The rooms: streams; fragments in each of the two rings, one of ordered messages and one of unordered, both shared by all streams; entries of the
+// flight, whose last is kept for a terminator. A list of GIRDERMOTH_FLIGHT_ROOM numbers is never too short for girdermoth_expired_inflight.
+#define GIRDERMOTH_STREAMS 64
+#define GIRDERMOTH_RING_ROOM 256
+#define GIRDERMOTH_FLIGHT_ROOM 256
 
 // The sender's numbers and slots. Nothing in them is for the caller.
 typedef struct {
@@ -62,18 +95,21 @@ typedef struct {
     bool yes;
 } girdermoth_reply;
 
-// What an expiry or an abandonment freed, where `some` is set. `number` is the message's after expire_pending_tail, and else 0;
-// `unordered` is told by expire_pending alone.
+// What an expiry or an abandonment freed, where `some` is set; `bytes` is for girdermoth_on_buffer_released. `message_id` is the message's number
+// after girdermoth_expire_pending_tail, and else 0; `unordered` is told by girdermoth_expire_pending alone.
 typedef struct {
-    uint64_t number, bytes;
+    uint64_t message_id, bytes;
     uint16_t stream;
     uint8_t refusal;
     bool some, unordered;
 } girdermoth_freed;
 
-// A chunk, where `some` is set. `length` counts the bytes that it still holds; `deadline` and `since` are 0 where they are absent.
+// A chunk, where `some` is set. Its bytes are the host's, from `offset` on; `length` counts those that it still holds, and is 0 once it is acknowledged
+// or abandoned. `protocol` is the payload type, `kind` and `value` the reliability that the stream had at the write. `deadline` is when the message's
+// lifetime ends, `since` when girdermoth_send_next gave the chunk out; both are 0 where they are absent. `nsent` is 1 in flight, 0 before and for a
+// terminator: what the host sends again is not counted. `retransmit` stays set until the entry is acknowledged or abandoned.
 typedef struct {
-    uint64_t number, offset, deadline, since;
+    uint64_t message_id, offset, deadline, since;
     uint32_t tsn, length, protocol, value, nsent;
     uint16_t stream, ssn;
     uint8_t kind, refusal;
@@ -103,75 +139,87 @@ GIRDERMOTH_ASSERT(_Alignof(girdermoth_sender) == 8 && _Alignof(girdermoth_fragme
 
 // Whatever the bytes were: the first chunk takes the TSN `tsn`, the first message the number `number`. Never refused.
 girdermoth_reply girdermoth_init(girdermoth_sender *s, uint32_t tsn, uint64_t number);
-// A new stream: ordered, reliable, and never high; `maximum` bounds a chunk's payload. Refused, in this order: BAD_BOUNDS, ALREADY_OPEN,
-// STREAMS_FULL.
+// A new stream: ordered, reliable, with the low threshold 0 and the high one 2^64 - 1; `maximum` bounds a chunk's payload. A stream is never closed.
+// Refused, in this order: BAD_BOUNDS, ALREADY_OPEN, STREAMS_FULL.
 girdermoth_reply girdermoth_open_stream(girdermoth_sender *s, uint16_t identifier, uint32_t maximum);
-// How messages that are written from now on are delivered: `value` is a count for REXMIT, a lifetime in milliseconds for TIMED. Refused: NOT_OPEN.
-girdermoth_reply girdermoth_set_reliability(girdermoth_sender *s, uint16_t identifier, bool unordered, uint8_t kind, uint32_t value);
-// Refused: NOT_OPEN.
-girdermoth_reply girdermoth_set_low_threshold(girdermoth_sender *s, uint16_t identifier, uint64_t low);
-// Refused: NOT_OPEN.
-girdermoth_reply girdermoth_set_high_threshold(girdermoth_sender *s, uint16_t identifier, uint64_t high);
-// Bytes of a stream have left: `yes` where the buffered amount fell to the low threshold. Zero or less changes nothing. Refused: NOT_OPEN.
-girdermoth_reply girdermoth_release(girdermoth_sender *s, uint16_t identifier, int64_t released);
+// How messages that are written from now on are delivered: `value` is a count for REXMIT, a lifetime in milliseconds for TIMED. Messages of payload
+// type 50 (DCEP) are ordered and live for ever all the same. Refused: NOT_OPEN.
+girdermoth_reply girdermoth_set_reliability_params(girdermoth_sender *s, uint16_t identifier, bool unordered, uint8_t kind, uint32_t value);
+// The amount whose reaching from above girdermoth_on_buffer_released tells. Refused: NOT_OPEN.
+girdermoth_reply girdermoth_set_buffered_amount_low_threshold(girdermoth_sender *s, uint16_t identifier, uint64_t low);
+// The amount whose reaching from below girdermoth_write tells. Refused: NOT_OPEN.
+girdermoth_reply girdermoth_set_buffered_amount_high_threshold(girdermoth_sender *s, uint16_t identifier, uint64_t high);
+// Bytes of a stream have left, acknowledged, expired or abandoned: the host hands over what those calls told. `yes` where the buffered amount fell from
+// above the low threshold to it or below. Zero or less changes nothing; more than is buffered leaves 0. Refused: NOT_OPEN.
+girdermoth_reply girdermoth_on_buffer_released(girdermoth_sender *s, uint16_t identifier, int64_t released);
 
 // ---- messages. The clock is in milliseconds, at most GIRDERMOTH_CLOCK_MAX, and may go back
 
-// The caller keeps the bytes: a message is where they begin and how many they are; `protocol` is the payload type. `yes` where the buffered
-// amount reached the high threshold. Refused, in this order: NOT_OPEN, MESSAGE_LONG, BEYOND_LIMIT (offset), BUFFER_FULL, RING_FULL,
-// NUMBERS_SPENT.
+// The caller keeps the bytes until all of the message is acknowledged or given up: a message is where they begin and how many they are; `protocol` is
+// the payload type. It is cut into fragments, which wait in the ring of ordered or that of unordered messages; each ring is shared by all streams.
+// `yes` where the buffered amount rose from below the high threshold to it or above. DO NOT WRITE an ordered message of length 0: it takes an SSN
+// that no chunk carries, so that its stream is stopped for good (send one byte of payload type 56 or 57 instead). Refused, in this order: NOT_OPEN,
+// MESSAGE_LONG, BEYOND_LIMIT (offset), BUFFER_FULL, RING_FULL, NUMBERS_SPENT.
 girdermoth_reply girdermoth_write(girdermoth_sender *s, uint16_t identifier, uint32_t protocol, uint64_t offset, uint64_t length);
-// Starts the lifetimes of the messages not yet seen. Refused: BEYOND_LIMIT.
-girdermoth_reply girdermoth_start_lifetimes(girdermoth_sender *s, uint64_t clock);
-// The next chunk goes to the flight, under its TSN; `some` is unset where nothing is pending. Refused: BEYOND_LIMIT, FLIGHT_FULL.
-girdermoth_fragment girdermoth_send(girdermoth_sender *s, uint64_t clock);
-// The message at the head goes if it is due and wholly unsent, and takes no TSN. Refused: BEYOND_LIMIT.
+// Starts the lifetimes of the TIMED messages not yet seen: `clock` and the stream's value make the deadline. Until then they do not age. The first
+// call of each round: girdermoth_send_next does it too, but not where it is refused. Refused: BEYOND_LIMIT.
+girdermoth_reply girdermoth_start_timed_messages(girdermoth_sender *s, uint64_t clock);
+// The next chunk goes to the flight, under its TSN, and the host sends it; `some` is unset where nothing is pending. It never looks at deadlines:
+// make both expiries before EACH call of it. Refused: BEYOND_LIMIT, FLIGHT_FULL.
+girdermoth_fragment girdermoth_send_next(girdermoth_sender *s, uint64_t clock);
+// The message at the head goes if it is due and wholly unsent: it takes no TSN, and the SSNs behind it close the gap. Which message it was,
+// girdermoth_peek_pending tells before. It looks at the head alone: call it, with the next, until neither frees anything. Refused: BEYOND_LIMIT.
 girdermoth_freed girdermoth_expire_pending(girdermoth_sender *s, uint64_t clock);
-// Abandons the message under way, if its rest has expired. Refused: BEYOND_LIMIT.
+// Abandons the message at the head if it is due and partly sent: its rest goes, and one terminator takes its place in flight. Refused: BEYOND_LIMIT.
 girdermoth_freed girdermoth_expire_pending_tail(girdermoth_sender *s, uint64_t clock);
-// Abandons the message of a TSN in flight; `some` is unset where the TSN is not. Never refused.
+// Gives up the whole message of a TSN in flight, whatever its reliability: all its entries are abandoned and hold no bytes, and where a rest of it was
+// unsent, that goes and one terminator takes its place. `bytes` is 0 where it was abandoned before; `some` is unset for a TSN that is not in flight.
+// Tell the peer by FORWARD-TSN. Never refused.
 girdermoth_freed girdermoth_abandon(girdermoth_sender *s, uint32_t tsn);
 
 // ---- the flight
 
-// The entry of a TSN is acknowledged; `value` is the bytes that it held, 0 for an unknown TSN. Never refused.
-girdermoth_reply girdermoth_acknowledge(girdermoth_sender *s, uint32_t tsn);
-// Takes the oldest entry, if it has this TSN. Never refused.
+// The entry of a TSN is acknowledged; `value` is the bytes that it held, for girdermoth_on_buffer_released (girdermoth_get tells the stream, before or
+// behind); 0 for an unknown TSN and for a second time. Never refused.
+girdermoth_reply girdermoth_mark_as_acked(girdermoth_sender *s, uint32_t tsn);
+// Takes the oldest entry out of the flight, if it has this TSN: for each TSN up to a SACK's cumulative one, behind girdermoth_mark_as_acked. No place of
+// the flight becomes free otherwise. Never refused.
 girdermoth_fragment girdermoth_pop(girdermoth_sender *s, uint32_t tsn);
-// Every entry that is neither acknowledged nor abandoned is to be retransmitted. Never refused.
-girdermoth_reply girdermoth_mark_all(girdermoth_sender *s);
-// The TSNs in flight whose message has expired, oldest first, in front of the lent list of `room` numbers; `value` is how many. What is
-// pending and in flight and the rest of the list stay. Refused: BEYOND_LIMIT, LIST_SHORT.
+// Marks every entry that is neither acknowledged nor abandoned for retransmission: when T3-RTX has fired. Never refused.
+girdermoth_reply girdermoth_mark_all_to_retransmit(girdermoth_sender *s);
+// The TSNs in flight that are not abandoned, are due, and are not acknowledged or have a rest of their message unsent; oldest first, in front of the
+// lent list of `room` numbers; `value` is how many. Call girdermoth_abandon for each: one gives up the whole message, so that later ones of the list
+// may be abandoned already. What is pending and in flight and the rest of the list stay. Refused: BEYOND_LIMIT, LIST_SHORT.
 girdermoth_reply girdermoth_expired_inflight(girdermoth_sender *s, uint32_t *list, size_t room, uint64_t clock);
 
 // ---- questions. None is refused but where it says so
 
-// The entry of a TSN.
+// The entry of a TSN in flight. The host sends again by it, and finds by it, from the oldest TSN on, what FORWARD-TSN is to tell.
 girdermoth_fragment girdermoth_get(const girdermoth_sender *s, uint32_t tsn);
 // `yes` for a TSN in flight that is abandoned.
 girdermoth_reply girdermoth_is_abandoned(const girdermoth_sender *s, uint32_t tsn);
 // The chunk that is sent next; its `tsn` is 0.
 girdermoth_fragment girdermoth_peek_pending(const girdermoth_sender *s);
-// `value` is the number of the next message.
-girdermoth_reply girdermoth_next_message(const girdermoth_sender *s);
-// `value` is the TSN of the next chunk that is sent.
+// `value` is the number that the next message with a fragment gets.
+girdermoth_reply girdermoth_next_message_id(const girdermoth_sender *s);
+// `value` is the TSN of the next chunk that is sent, or of the next terminator.
 girdermoth_reply girdermoth_next_tsn(const girdermoth_sender *s);
-// `value` is how many chunks, or how many bytes, are pending or in flight.
-girdermoth_reply girdermoth_pending_length(const girdermoth_sender *s);
+// `value` is how many chunks, or how many bytes, are pending or in flight; what is acknowledged or abandoned has an entry and no bytes.
+girdermoth_reply girdermoth_pending_len(const girdermoth_sender *s);
 girdermoth_reply girdermoth_pending_bytes(const girdermoth_sender *s);
-girdermoth_reply girdermoth_inflight_length(const girdermoth_sender *s);
+girdermoth_reply girdermoth_inflight_len(const girdermoth_sender *s);
 girdermoth_reply girdermoth_inflight_bytes(const girdermoth_sender *s);
-// `value` is the oldest TSN that is neither acknowledged nor abandoned, where `yes` is set.
-girdermoth_reply girdermoth_earliest_outstanding(const girdermoth_sender *s);
+// `value` is the oldest TSN in flight that is neither acknowledged nor abandoned, where `yes` is set.
+girdermoth_reply girdermoth_earliest_outstanding_tsn(const girdermoth_sender *s);
 // `yes` where the stream has chunks pending, or pending or in flight; no for a stream that is not open.
 girdermoth_reply girdermoth_pending_contains_stream(const girdermoth_sender *s, uint16_t identifier);
 girdermoth_reply girdermoth_contains_stream(const girdermoth_sender *s, uint16_t identifier);
 // `value` is the stream's buffered amount or threshold. Refused: NOT_OPEN.
 girdermoth_reply girdermoth_buffered_amount(const girdermoth_sender *s, uint16_t identifier);
-girdermoth_reply girdermoth_low_threshold(const girdermoth_sender *s, uint16_t identifier);
-girdermoth_reply girdermoth_high_threshold(const girdermoth_sender *s, uint16_t identifier);
-// Messages and bytes that the stream has sent. Refused: NOT_OPEN.
-girdermoth_counts girdermoth_statistics(const girdermoth_sender *s, uint16_t identifier);
+girdermoth_reply girdermoth_buffered_amount_low_threshold(const girdermoth_sender *s, uint16_t identifier);
+girdermoth_reply girdermoth_buffered_amount_high_threshold(const girdermoth_sender *s, uint16_t identifier);
+// What was written on the stream: messages of the payload types 51, 53, 56 and 57, and the bytes of those of 51 and 53. Refused: NOT_OPEN.
+girdermoth_counts girdermoth_stats(const girdermoth_sender *s, uint16_t identifier);
 
 // ---- the round-trip estimator: one struct that the caller owns, and lends to each call as it does a sender
 
@@ -185,14 +233,16 @@ typedef struct {
 GIRDERMOTH_ASSERT(sizeof(girdermoth_rto) == 56 && offsetof(girdermoth_rto, srtt) == 32 && offsetof(girdermoth_rto, rto) == 48, "rto");
 
 // A refused call changes no byte. Settings and measured times are milliseconds. A reply that is a uint8_t alone is 0, or the refusal.
-// An estimator without a measurement, whatever the bytes were. Refused: BEYOND_LIMIT, BAD_BOUNDS.
+// Without a measurement, whatever the bytes were; the RTO is `initial`, unclamped. Refused: BEYOND_LIMIT, BAD_BOUNDS.
 uint8_t girdermoth_rto_new(girdermoth_rto *s, uint64_t initial, uint64_t low, uint64_t high);
-// Takes a measured time; `value` is the smoothed one. Changes nothing while updates are off. Refused: BEYOND_LIMIT.
+// A measured round-trip time: of a chunk that the host has sent once, from its `since` on. `value` is the smoothed one. Changes nothing while updates
+// are off. Refused: BEYOND_LIMIT.
 girdermoth_reply girdermoth_rto_set_new_rtt(girdermoth_rto *s, uint64_t rtt);
+// The RTO: the interval of T3-RTX.
 uint64_t girdermoth_rto_get_rto(const girdermoth_rto *s);
 // Back to no measurement and the initial RTO. Changes nothing while updates are off. Never refused.
 uint8_t girdermoth_rto_reset(girdermoth_rto *s);
-// The RTO is kept as it is given; `no_update` turns updates off, or on again. Refused: BEYOND_LIMIT.
+// Sets the RTO, unclamped, and whether measurements and resets change nothing from now on. Refused: BEYOND_LIMIT.
 uint8_t girdermoth_rto_set_rto(girdermoth_rto *s, uint64_t rto, bool no_update);
 
 // ---- the six timers: one struct that the caller owns, and lends to each call as it does a sender
@@ -238,7 +288,8 @@ girdermoth_reply girdermoth_timers_next_timeout(const girdermoth_timers *s);
 girdermoth_reply girdermoth_timer_get(const girdermoth_timers *s, size_t timer);
 // Sets the deadline, or clears it where `is` is unset. Refused: BEYOND_LIMIT.
 uint8_t girdermoth_timer_set(girdermoth_timers *s, size_t timer, bool is, uint64_t time);
-// Refused: BEYOND_LIMIT.
+// The deadline is `clock` plus the interval, doubled for each counted expiry, and at most `rto_max` from `clock`; for ACK, plus the interval. Refused:
+// BEYOND_LIMIT.
 uint8_t girdermoth_timer_start(girdermoth_timers *s, size_t timer, uint64_t clock, uint64_t interval);
 // A start, where there is no deadline at or after `clock`. Refused: BEYOND_LIMIT.
 uint8_t girdermoth_timer_restart_if_stale(girdermoth_timers *s, size_t timer, uint64_t clock, uint64_t interval);
@@ -246,7 +297,8 @@ uint8_t girdermoth_timer_restart_if_stale(girdermoth_timers *s, size_t timer, ui
 uint8_t girdermoth_timer_stop(girdermoth_timers *s, size_t timer);
 uint8_t girdermoth_timer_reset_retrans(girdermoth_timers *s, size_t timer);
 uint8_t girdermoth_timer_suppress_error_count(girdermoth_timers *s, size_t timer);
-// Asking counts: every call at or after the deadline is an expiry of its own. Refused: BEYOND_LIMIT, COUNT_FULL.
+// `expired` where there is a deadline at or before `clock`. Asking counts: every call at or after the deadline is an expiry of its own, and the deadline
+// stays: start the timer again, or stop it. `failure` where the count is now above the timer's maximum. Refused: BEYOND_LIMIT, COUNT_FULL.
 girdermoth_expiry girdermoth_timer_is_expired(girdermoth_timers *s, size_t timer, uint64_t clock);
 
 #ifdef __cplusplus

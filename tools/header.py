@@ -45,6 +45,7 @@ class Header:
     # the constants, by their names without GIRDERMOTH_, in groups as they stand; and what is said behind each
     enums: list = field(default_factory=list)
     defines: dict = field(default_factory=dict)
+    version: str = ''
     said: dict = field(default_factory=dict)
     structs: dict = field(default_factory=dict)
     functions: list = field(default_factory=list)
@@ -98,8 +99,9 @@ def read(path):
             skipping = line.startswith('#ifdef')
         elif line.startswith('#endif'):
             skipping = False
-        elif line.startswith('#define') and 'UINT64_C' in line:
-            found = re.fullmatch(r'#define GIRDERMOTH_(\w+) UINT64_C\((\d+)\)', line) or fail(number, line)
+        elif line.startswith('#define GIRDERMOTH_VERSION '):
+            header.version = line.split('"')[1]
+        elif line.startswith('#define') and (found := re.fullmatch(r'#define GIRDERMOTH_(\w+) (?:UINT64_C\()?(\d+)\)?', line)):
             header.defines[found[1]] = int(found[2])
         elif not code:
             comment = comment + [said] if said else []

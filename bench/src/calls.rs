@@ -44,31 +44,31 @@ macro_rules! calls {
 calls! {
     init: girdermoth_init, anchor_init(s: &mut Sender, tsn: u32, number: u64) -> Reply;
     open_stream: girdermoth_open_stream, anchor_open_stream(s: &mut Sender, identifier: u16, maximum: u32) -> Reply;
-    set_reliability: girdermoth_set_reliability, anchor_set_reliability(
+    set_reliability: girdermoth_set_reliability_params, anchor_set_reliability_params(
         s: &mut Sender, identifier: u16, unordered: bool, kind: u8, value: u32
     ) -> Reply;
-    release: girdermoth_release, anchor_release(s: &mut Sender, identifier: u16, released: i64) -> Reply;
+    release: girdermoth_on_buffer_released, anchor_on_buffer_released(s: &mut Sender, identifier: u16, released: i64) -> Reply;
     write: girdermoth_write, anchor_write(
         s: &mut Sender, identifier: u16, protocol: u32, offset: u64, length: u64
     ) -> Reply;
-    start_lifetimes: girdermoth_start_lifetimes, anchor_start_lifetimes(s: &mut Sender, clock: u64) -> Reply;
-    send: girdermoth_send, anchor_send(s: &mut Sender, clock: u64) -> Fragment;
+    start_lifetimes: girdermoth_start_timed_messages, anchor_start_timed_messages(s: &mut Sender, clock: u64) -> Reply;
+    send: girdermoth_send_next, anchor_send_next(s: &mut Sender, clock: u64) -> Fragment;
     expire_pending: girdermoth_expire_pending, anchor_expire_pending(s: &mut Sender, clock: u64) -> Freed;
     expire_pending_tail: girdermoth_expire_pending_tail, anchor_expire_pending_tail(
         s: &mut Sender, clock: u64
     ) -> Freed;
     abandon: girdermoth_abandon, anchor_abandon(s: &mut Sender, tsn: u32) -> Freed;
-    acknowledge: girdermoth_acknowledge, anchor_acknowledge(s: &mut Sender, tsn: u32) -> Reply;
+    acknowledge: girdermoth_mark_as_acked, anchor_mark_as_acked(s: &mut Sender, tsn: u32) -> Reply;
     pop: girdermoth_pop, anchor_pop(s: &mut Sender, tsn: u32) -> Fragment;
-    mark_all: girdermoth_mark_all, anchor_mark_all(s: &mut Sender) -> Reply;
+    mark_all: girdermoth_mark_all_to_retransmit, anchor_mark_all_to_retransmit(s: &mut Sender) -> Reply;
     get: girdermoth_get, anchor_get(s: &Sender, tsn: u32) -> Fragment;
-    pending_length: girdermoth_pending_length, anchor_pending_length(s: &Sender) -> Reply;
-    inflight_length: girdermoth_inflight_length, anchor_inflight_length(s: &Sender) -> Reply;
+    pending_length: girdermoth_pending_len, anchor_pending_len(s: &Sender) -> Reply;
+    inflight_length: girdermoth_inflight_len, anchor_inflight_len(s: &Sender) -> Reply;
     pending_contains_stream: girdermoth_pending_contains_stream, anchor_pending_contains_stream(
         s: &Sender, identifier: u16
     ) -> Reply;
     contains_stream: girdermoth_contains_stream, anchor_contains_stream(s: &Sender, identifier: u16) -> Reply;
-    earliest_outstanding: girdermoth_earliest_outstanding, anchor_earliest_outstanding(s: &Sender) -> Reply;
+    earliest_outstanding: girdermoth_earliest_outstanding_tsn, anchor_earliest_outstanding_tsn(s: &Sender) -> Reply;
     timers_new: girdermoth_timers_new, anchor_timers_new(
         s: &mut Timers, has_init: bool, init: u64, has_data: bool, data: u64, rto_max: u64
     ) -> u8;

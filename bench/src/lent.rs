@@ -45,7 +45,7 @@ fn chunk(f: sys::Fragment) -> Option<Chunk> {
         tsn: f.tsn,
         ssn: f.ssn,
         stream: f.stream,
-        number: f.number,
+        number: f.message_id,
         length: u64::from(f.length),
     })
 }

@@ -1,4 +1,4 @@
-// 01's examples of timers and RTO, from C; and garbage bytes in both: each call returns, the same twice, and a refused one changes no byte.
+// The worked examples of timers and RTO, from C; and garbage bytes in both: each call returns, the same twice, and a refused one changes no byte.
 #include "girdermoth.h"
 #include <stdio.h>
 #include <stdlib.h>

@@ -12,7 +12,7 @@ static girdermoth_sender s;
 static void fresh(bool unordered, uint8_t kind, uint32_t value) {
     girdermoth_init(&s, 7000, 8000);
     WANT(girdermoth_open_stream(&s, 21, 100).refusal == GIRDERMOTH_DONE);
-    WANT(girdermoth_set_reliability(&s, 21, unordered, kind, value).refusal == GIRDERMOTH_DONE);
+    WANT(girdermoth_set_reliability_params(&s, 21, unordered, kind, value).refusal == GIRDERMOTH_DONE);
 }
 
 // Only TIMED gives a lifetime: a message wholly unsent, one half sent, and one in flight.
@@ -23,12 +23,12 @@ static void kinds(void) {
         uint32_t list[4];
         fresh(false, kind[i], 50);
         girdermoth_write(&s, 21, 53, 0, 10);
-        girdermoth_start_lifetimes(&s, 1000);
+        girdermoth_start_timed_messages(&s, 1000);
         WANT(girdermoth_peek_pending(&s).has_deadline == timed && girdermoth_peek_pending(&s).kind == kind[i]);
         WANT(!girdermoth_expire_pending(&s, 1049).some);
         WANT(girdermoth_expire_pending(&s, 1050).some == timed);
         girdermoth_write(&s, 21, 53, 0, 250);
-        for (int k = timed ? 1 : 0; k < 2; k++) girdermoth_send(&s, 2000);
+        for (int k = timed ? 1 : 0; k < 2; k++) girdermoth_send_next(&s, 2000);
         WANT(girdermoth_expired_inflight(&s, list, 4, 2049).value == 0);
         WANT(girdermoth_expired_inflight(&s, list, 4, 2050).value == (timed ? 1u : 0u));
         WANT(girdermoth_expire_pending_tail(&s, 2050).some == timed);
@@ -45,10 +45,10 @@ static void payload_types(void) {
     for (uint32_t protocol = 0; protocol < 70; protocol++) {
         fresh(true, GIRDERMOTH_TIMED, 1);
         girdermoth_write(&s, 21, protocol, 0, 10);
-        girdermoth_counts n = girdermoth_statistics(&s, 21);
+        girdermoth_counts n = girdermoth_stats(&s, 21);
         bool bytes = protocol == 51 || protocol == 53, empty = protocol == 56 || protocol == 57;
         WANT(n.messages == (bytes || empty) && n.bytes == (bytes ? 10u : 0u));
-        girdermoth_fragment sent = girdermoth_send(&s, 0);
+        girdermoth_fragment sent = girdermoth_send_next(&s, 0);
         WANT(sent.protocol == protocol && sent.unordered == (protocol != 50) && sent.has_deadline == (protocol != 50));
     }
 }
@@ -56,27 +56,27 @@ static void payload_types(void) {
 // Every field of a fragment, each another number.
 static void fragments(void) {
     fresh(true, GIRDERMOTH_TIMED, 300);
-    girdermoth_set_reliability(&s, 21, false, GIRDERMOTH_TIMED, 300);
+    girdermoth_set_reliability_params(&s, 21, false, GIRDERMOTH_TIMED, 300);
     girdermoth_write(&s, 21, 51, 0, 0);
     girdermoth_write(&s, 21, 51, 0, 0);
     WANT(girdermoth_write(&s, 21, 51, 5000, 130).refusal == GIRDERMOTH_DONE);
     girdermoth_fragment c = girdermoth_peek_pending(&s);
-    WANT(c.some && c.tsn == 0 && c.number == 8000 && c.offset == 5000 && c.length == 100 && c.nsent == 0 && !c.has_since && c.since == 0);
+    WANT(c.some && c.tsn == 0 && c.message_id == 8000 && c.offset == 5000 && c.length == 100 && c.nsent == 0 && !c.has_since && c.since == 0);
     WANT(!c.has_deadline && c.deadline == 0);
-    c = girdermoth_send(&s, 40);
-    WANT(c.some && c.refusal == 0 && c.tsn == 7000 && c.number == 8000 && c.offset == 5000 && c.length == 100 && c.protocol == 51 && c.value == 300);
+    c = girdermoth_send_next(&s, 40);
+    WANT(c.some && c.refusal == 0 && c.tsn == 7000 && c.message_id == 8000 && c.offset == 5000 && c.length == 100 && c.protocol == 51 && c.value == 300);
     WANT(c.nsent == 1 && c.stream == 21 && c.ssn == 2 && c.kind == GIRDERMOTH_TIMED && c.has_deadline && c.deadline == 340 && c.has_since && c.since == 40);
     WANT(!c.unordered && c.beginning && !c.ending && !c.acked && !c.abandoned && !c.retransmit);
-    c = girdermoth_send(&s, 41);
+    c = girdermoth_send_next(&s, 41);
     WANT(c.tsn == 7001 && c.offset == 5100 && c.length == 30 && !c.beginning && c.ending);
-    girdermoth_mark_all(&s);
+    girdermoth_mark_all_to_retransmit(&s);
     c = girdermoth_get(&s, 7001);
     WANT(c.some && c.retransmit && !c.acked && !c.abandoned);
-    WANT(girdermoth_acknowledge(&s, 7001).value == 30);
+    WANT(girdermoth_mark_as_acked(&s, 7001).value == 30);
     c = girdermoth_get(&s, 7001);
     WANT(c.acked && !c.abandoned && !c.retransmit && c.length == 0 && c.offset == 5100);
     girdermoth_freed freed = girdermoth_abandon(&s, 7000);
-    WANT(freed.some && freed.bytes == 100 && freed.stream == 21 && freed.number == 0 && freed.refusal == 0 && !freed.unordered);
+    WANT(freed.some && freed.bytes == 100 && freed.stream == 21 && freed.message_id == 0 && freed.refusal == 0 && !freed.unordered);
     c = girdermoth_get(&s, 7000);
     WANT(!c.acked && c.abandoned && !c.retransmit);
     WANT(girdermoth_is_abandoned(&s, 7000).yes && !girdermoth_is_abandoned(&s, 7002).yes);
@@ -86,13 +86,13 @@ static void fragments(void) {
     // what expires: number and unordered are told by one call each
     fresh(true, GIRDERMOTH_TIMED, 5);
     girdermoth_write(&s, 21, 53, 0, 10);
-    girdermoth_start_lifetimes(&s, 0);
+    girdermoth_start_timed_messages(&s, 0);
     freed = girdermoth_expire_pending(&s, 5);
-    WANT(freed.some && freed.unordered && freed.bytes == 10 && freed.stream == 21 && freed.number == 0);
+    WANT(freed.some && freed.unordered && freed.bytes == 10 && freed.stream == 21 && freed.message_id == 0);
     girdermoth_write(&s, 21, 53, 0, 150);
-    girdermoth_send(&s, 10);
+    girdermoth_send_next(&s, 10);
     freed = girdermoth_expire_pending_tail(&s, 15);
-    WANT(freed.some && !freed.unordered && freed.bytes == 150 && freed.stream == 21 && freed.number == 8001);
+    WANT(freed.some && !freed.unordered && freed.bytes == 150 && freed.stream == 21 && freed.message_id == 8001);
 }
 
 // Numbers that questions answer, each another; thresholds and amounts.
@@ -100,19 +100,19 @@ static void questions(void) {
     fresh(false, GIRDERMOTH_RELIABLE, 0);
     girdermoth_write(&s, 21, 53, 0, 250);
     girdermoth_write(&s, 21, 57, 0, 1);
-    girdermoth_send(&s, 0);
-    WANT(girdermoth_next_message(&s).value == 8002 && girdermoth_next_tsn(&s).value == 7001);
-    WANT(girdermoth_pending_length(&s).value == 3 && girdermoth_pending_bytes(&s).value == 151);
-    WANT(girdermoth_inflight_length(&s).value == 1 && girdermoth_inflight_bytes(&s).value == 100);
-    WANT(girdermoth_earliest_outstanding(&s).yes && girdermoth_earliest_outstanding(&s).value == 7000);
-    WANT(girdermoth_statistics(&s, 21).messages == 2 && girdermoth_statistics(&s, 21).bytes == 250);
-    girdermoth_set_low_threshold(&s, 21, 200);
-    girdermoth_set_high_threshold(&s, 21, 260);
-    WANT(girdermoth_low_threshold(&s, 21).value == 200 && girdermoth_high_threshold(&s, 21).value == 260 && girdermoth_buffered_amount(&s, 21).value == 251);
-    WANT(girdermoth_write(&s, 21, 53, 0, 9).yes && girdermoth_release(&s, 21, 60).yes && !girdermoth_release(&s, 21, 1).yes);
+    girdermoth_send_next(&s, 0);
+    WANT(girdermoth_next_message_id(&s).value == 8002 && girdermoth_next_tsn(&s).value == 7001);
+    WANT(girdermoth_pending_len(&s).value == 3 && girdermoth_pending_bytes(&s).value == 151);
+    WANT(girdermoth_inflight_len(&s).value == 1 && girdermoth_inflight_bytes(&s).value == 100);
+    WANT(girdermoth_earliest_outstanding_tsn(&s).yes && girdermoth_earliest_outstanding_tsn(&s).value == 7000);
+    WANT(girdermoth_stats(&s, 21).messages == 2 && girdermoth_stats(&s, 21).bytes == 250);
+    girdermoth_set_buffered_amount_low_threshold(&s, 21, 200);
+    girdermoth_set_buffered_amount_high_threshold(&s, 21, 260);
+    WANT(girdermoth_buffered_amount_low_threshold(&s, 21).value == 200 && girdermoth_buffered_amount_high_threshold(&s, 21).value == 260 && girdermoth_buffered_amount(&s, 21).value == 251);
+    WANT(girdermoth_write(&s, 21, 53, 0, 9).yes && girdermoth_on_buffer_released(&s, 21, 60).yes && !girdermoth_on_buffer_released(&s, 21, 1).yes);
     girdermoth_open_stream(&s, 22, 1);
     WANT(girdermoth_pending_contains_stream(&s, 21).yes && girdermoth_contains_stream(&s, 21).yes && !girdermoth_contains_stream(&s, 22).yes);
-    while (girdermoth_send(&s, 0).some) {}
+    while (girdermoth_send_next(&s, 0).some) {}
     WANT(!girdermoth_pending_contains_stream(&s, 21).yes && girdermoth_contains_stream(&s, 21).yes);
 }
 
@@ -122,7 +122,7 @@ static void refusals(void) {
     fresh(false, GIRDERMOTH_TIMED, 0);
     WANT(girdermoth_write(&s, 21, 53, UINT64_C(4294967296), 1).refusal == GIRDERMOTH_BEYOND_LIMIT);
     WANT(girdermoth_write(&s, 21, 53, UINT64_C(4294967295), 1).refusal == GIRDERMOTH_DONE);
-    WANT(girdermoth_send(&s, GIRDERMOTH_CLOCK_MAX + 1).refusal == GIRDERMOTH_BEYOND_LIMIT && girdermoth_send(&s, GIRDERMOTH_CLOCK_MAX).some);
+    WANT(girdermoth_send_next(&s, GIRDERMOTH_CLOCK_MAX + 1).refusal == GIRDERMOTH_BEYOND_LIMIT && girdermoth_send_next(&s, GIRDERMOTH_CLOCK_MAX).some);
     WANT(girdermoth_open_stream(&s, 22, 0).refusal == GIRDERMOTH_BAD_BOUNDS && girdermoth_open_stream(&s, 22, 65516).refusal == GIRDERMOTH_BAD_BOUNDS);
     WANT(girdermoth_open_stream(&s, 21, 1).refusal == GIRDERMOTH_ALREADY_OPEN && girdermoth_buffered_amount(&s, 22).refusal == GIRDERMOTH_NOT_OPEN);
     for (uint16_t id = 100; id < 163; id++) WANT(girdermoth_open_stream(&s, id, 65515).refusal == GIRDERMOTH_DONE);
@@ -131,8 +131,8 @@ static void refusals(void) {
     WANT(girdermoth_expired_inflight(&s, list, 0, GIRDERMOTH_CLOCK_MAX).refusal == GIRDERMOTH_LIST_SHORT);
     WANT(girdermoth_expired_inflight(&s, list, 1, GIRDERMOTH_CLOCK_MAX).value == 1 && list[0] == 7000);
     WANT(girdermoth_write(&s, 21, 53, 0, 25600).refusal == GIRDERMOTH_DONE);
-    for (int i = 0; i < 254; i++) WANT(girdermoth_send(&s, 0).some);
-    WANT(girdermoth_send(&s, 0).refusal == GIRDERMOTH_FLIGHT_FULL);
+    for (int i = 0; i < 254; i++) WANT(girdermoth_send_next(&s, 0).some);
+    WANT(girdermoth_send_next(&s, 0).refusal == GIRDERMOTH_FLIGHT_FULL);
     girdermoth_init(&s, 0, UINT64_MAX);
     girdermoth_open_stream(&s, 21, 1);
     WANT(girdermoth_write(&s, 21, 53, 0, 1).refusal == GIRDERMOTH_NUMBERS_SPENT && girdermoth_write(&s, 21, 53, 0, 0).refusal == GIRDERMOTH_DONE);

@@ -24,12 +24,12 @@ static void fill(girdermoth_sender *s) {
     girdermoth_init(s, 5, 0); girdermoth_open_stream(s, 9, 65515);
     for (int i = 0; i < 65535; i++) {
         want(girdermoth_write(s, 9, 53, 0, 65536).refusal == GIRDERMOTH_DONE, "a write below the limit", CALL_write);
-        for (int k = 0; k < 2; k++) { girdermoth_fragment c = girdermoth_send(s, i); girdermoth_acknowledge(s, c.tsn); want(girdermoth_pop(s, c.tsn).acked, "sent, acknowledged and popped", CALL_pop); calls += 3; }
+        for (int k = 0; k < 2; k++) { girdermoth_fragment c = girdermoth_send_next(s, i); girdermoth_mark_as_acked(s, c.tsn); want(girdermoth_pop(s, c.tsn).acked, "sent, acknowledged and popped", CALL_pop); calls += 3; }
     }
     want(girdermoth_write(s, 9, 53, 0, 65536).refusal == GIRDERMOTH_BUFFER_FULL, "one byte beyond the limit", CALL_write); refusals[GIRDERMOTH_BUFFER_FULL]++;
-    want(girdermoth_write(s, 9, 53, 0, 65535).refusal == GIRDERMOTH_DONE && girdermoth_buffered_amount(s, 9).value == UINT32_MAX, "at the limit", CALL_write);
-    girdermoth_counts n = girdermoth_statistics(s, 9);
-    want(n.messages == 65536 && n.bytes == UINT32_MAX, "statistics", CALL_statistics);
+    want(girdermoth_write(s, 9, 53, 0, 65535).refusal == GIRDERMOTH_DONE && girdermoth_buffered_amount(s, 9).value == GIRDERMOTH_BUFFERED_MAX, "at the limit", CALL_write);
+    girdermoth_counts n = girdermoth_stats(s, 9);
+    want(n.messages == 65536 && n.bytes == UINT32_MAX, "statistics", CALL_stats);
 }
 
 int main(int argc, char **argv) {
@@ -63,14 +63,14 @@ int main(int argc, char **argv) {
     for (long go = 0; go < turns / 200 + 1; go++) {   // from a fresh sender
         garbage(s, sizeof *s); memset(g, 0xA5, sizeof *g); garbage(&g->s, sizeof g->s);
         uint32_t oldest = rnd() % 3 ? (uint32_t)rnd() : 4294967290u; uint64_t clock = 1000;
-        girdermoth_init(s, oldest, go % 4 ? rnd() % 1000 : UINT64_MAX - 3); girdermoth_init(&g->s, oldest, girdermoth_next_message(s).value);
+        girdermoth_init(s, oldest, go % 4 ? rnd() % 1000 : UINT64_MAX - 3); girdermoth_init(&g->s, oldest, girdermoth_next_message_id(s).value);
         for (int step = 0; step < 1500; step++) {
-            int pick = rnd() % 100, call = pick < 30 ? CALL_write : pick < 60 ? CALL_send : pick < 66 ? CALL_acknowledge : pick < 72 ? CALL_pop : (int)(1 + rnd() % (CALLS - 1));
-            uint64_t flying = girdermoth_inflight_length(s).value; uint32_t next = girdermoth_next_tsn(s).value;
+            int pick = rnd() % 100, call = pick < 30 ? CALL_write : pick < 60 ? CALL_send_next : pick < 66 ? CALL_mark_as_acked : pick < 72 ? CALL_pop : (int)(1 + rnd() % (CALLS - 1));
+            uint64_t flying = girdermoth_inflight_len(s).value; uint32_t next = girdermoth_next_tsn(s).value;
             clock += rnd() % 3;
             args x = {rnd() % 6 + 1, rnd() % 50 ? 1 + rnd() % 3000 : rnd() % 70000, next - (uint32_t)(call == CALL_pop ? flying : rnd() % (flying + 2)), clock, rnd() % 9000, (int64_t)(rnd() % 20000) - 500, rnd() % 300};
-            if (call == CALL_set_reliability || call == CALL_set_low_threshold || call == CALL_set_high_threshold) x.a = rnd() % 30000;
-            if (call == CALL_set_reliability) x.small = rnd() % 9;
+            if (call == CALL_set_reliability_params || call == CALL_set_buffered_amount_low_threshold || call == CALL_set_buffered_amount_high_threshold) x.a = rnd() % 30000;
+            if (call == CALL_set_reliability_params) x.small = rnd() % 9;
             if (rnd() % 200 == 0) { x.a = rnd(); x.b = rnd() % 80000; x.id = rnd(); }
             uint32_t *l = lent(x.room), *m = lent(x.room);
             *was = *s;

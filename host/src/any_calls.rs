@@ -42,7 +42,7 @@ impl Told for Reply {
 impl Told for Freed {
     fn tell(&self, told: &mut Vec<u64>) {
         told.push(self.refusal.into());
-        told.push(self.number);
+        told.push(self.message_id);
         told.push(self.bytes);
         told.push(self.stream.into());
         told.push(flag(self.some));
@@ -53,7 +53,7 @@ impl Told for Freed {
 impl Told for Fragment {
     fn tell(&self, told: &mut Vec<u64>) {
         told.push(self.refusal.into());
-        told.push(self.number);
+        told.push(self.message_id);
         told.push(self.offset);
         told.push(self.deadline);
         told.push(self.since);
@@ -157,36 +157,36 @@ impl Timers {
 pub(crate) const CALLS: [(&str, bool); 32] = [
     ("girdermoth_init", false),
     ("girdermoth_open_stream", false),
-    ("girdermoth_set_reliability", false),
-    ("girdermoth_set_low_threshold", false),
-    ("girdermoth_set_high_threshold", false),
-    ("girdermoth_release", false),
+    ("girdermoth_set_reliability_params", false),
+    ("girdermoth_set_buffered_amount_low_threshold", false),
+    ("girdermoth_set_buffered_amount_high_threshold", false),
+    ("girdermoth_on_buffer_released", false),
     ("girdermoth_write", false),
-    ("girdermoth_start_lifetimes", false),
-    ("girdermoth_send", false),
+    ("girdermoth_start_timed_messages", false),
+    ("girdermoth_send_next", false),
     ("girdermoth_expire_pending", false),
     ("girdermoth_expire_pending_tail", false),
     ("girdermoth_abandon", false),
-    ("girdermoth_acknowledge", false),
+    ("girdermoth_mark_as_acked", false),
     ("girdermoth_pop", false),
-    ("girdermoth_mark_all", false),
+    ("girdermoth_mark_all_to_retransmit", false),
     ("girdermoth_expired_inflight", false),
     ("girdermoth_get", true),
     ("girdermoth_is_abandoned", true),
     ("girdermoth_peek_pending", true),
-    ("girdermoth_next_message", true),
+    ("girdermoth_next_message_id", true),
     ("girdermoth_next_tsn", true),
-    ("girdermoth_pending_length", true),
+    ("girdermoth_pending_len", true),
     ("girdermoth_pending_bytes", true),
-    ("girdermoth_inflight_length", true),
+    ("girdermoth_inflight_len", true),
     ("girdermoth_inflight_bytes", true),
-    ("girdermoth_earliest_outstanding", true),
+    ("girdermoth_earliest_outstanding_tsn", true),
     ("girdermoth_pending_contains_stream", true),
     ("girdermoth_contains_stream", true),
     ("girdermoth_buffered_amount", true),
-    ("girdermoth_low_threshold", true),
-    ("girdermoth_high_threshold", true),
-    ("girdermoth_statistics", true),
+    ("girdermoth_buffered_amount_low_threshold", true),
+    ("girdermoth_buffered_amount_high_threshold", true),
+    ("girdermoth_stats", true),
 ];
 
 /// A call on a sender, with any numbers and a list that is lent.
@@ -194,36 +194,36 @@ pub(crate) fn call(which: usize, s: &mut Sender, list: &mut [u32], [a, b, c, d]:
     match which {
         0 => girdermoth_init(s, a as u32, b).told(),
         1 => girdermoth_open_stream(s, a as u16, b as u32).told(),
-        2 => girdermoth_set_reliability(s, a as u16, b % 2 == 1, c as u8, d as u32).told(),
-        3 => girdermoth_set_low_threshold(s, a as u16, b).told(),
-        4 => girdermoth_set_high_threshold(s, a as u16, b).told(),
-        5 => girdermoth_release(s, a as u16, b as i64).told(),
+        2 => girdermoth_set_reliability_params(s, a as u16, b % 2 == 1, c as u8, d as u32).told(),
+        3 => girdermoth_set_buffered_amount_low_threshold(s, a as u16, b).told(),
+        4 => girdermoth_set_buffered_amount_high_threshold(s, a as u16, b).told(),
+        5 => girdermoth_on_buffer_released(s, a as u16, b as i64).told(),
         6 => girdermoth_write(s, a as u16, b as u32, c, d).told(),
-        7 => girdermoth_start_lifetimes(s, a).told(),
-        8 => girdermoth_send(s, a).told(),
+        7 => girdermoth_start_timed_messages(s, a).told(),
+        8 => girdermoth_send_next(s, a).told(),
         9 => girdermoth_expire_pending(s, a).told(),
         10 => girdermoth_expire_pending_tail(s, a).told(),
         11 => girdermoth_abandon(s, a as u32).told(),
-        12 => girdermoth_acknowledge(s, a as u32).told(),
+        12 => girdermoth_mark_as_acked(s, a as u32).told(),
         13 => girdermoth_pop(s, a as u32).told(),
-        14 => girdermoth_mark_all(s).told(),
+        14 => girdermoth_mark_all_to_retransmit(s).told(),
         15 => expired_inflight(s, list, a).told(),
         16 => girdermoth_get(s, a as u32).told(),
         17 => girdermoth_is_abandoned(s, a as u32).told(),
         18 => girdermoth_peek_pending(s).told(),
-        19 => girdermoth_next_message(s).told(),
+        19 => girdermoth_next_message_id(s).told(),
         20 => girdermoth_next_tsn(s).told(),
-        21 => girdermoth_pending_length(s).told(),
+        21 => girdermoth_pending_len(s).told(),
         22 => girdermoth_pending_bytes(s).told(),
-        23 => girdermoth_inflight_length(s).told(),
+        23 => girdermoth_inflight_len(s).told(),
         24 => girdermoth_inflight_bytes(s).told(),
-        25 => girdermoth_earliest_outstanding(s).told(),
+        25 => girdermoth_earliest_outstanding_tsn(s).told(),
         26 => girdermoth_pending_contains_stream(s, a as u16).told(),
         27 => girdermoth_contains_stream(s, a as u16).told(),
         28 => girdermoth_buffered_amount(s, a as u16).told(),
-        29 => girdermoth_low_threshold(s, a as u16).told(),
-        30 => girdermoth_high_threshold(s, a as u16).told(),
-        31 => girdermoth_statistics(s, a as u16).told(),
+        29 => girdermoth_buffered_amount_low_threshold(s, a as u16).told(),
+        30 => girdermoth_buffered_amount_high_threshold(s, a as u16).told(),
+        31 => girdermoth_stats(s, a as u16).told(),
         _ => unreachable!("there are {} calls", CALLS.len()),
     }
 }

@@ -88,7 +88,7 @@ pub struct Chunk {
     pub acked: bool,
     /// Its message is abandoned.
     pub abandoned: bool,
-    /// It is to be sent again.
+    /// It is marked to be sent again, and stays so until it is acknowledged or abandoned.
     pub retransmit: bool,
 }
 
@@ -110,7 +110,7 @@ impl Chunk {
             stream_identifier: f.stream,
             stream_sequence_number: f.ssn,
             payload_type: PayloadProtocolIdentifier(f.protocol),
-            message_id: f.number,
+            message_id: f.message_id,
             offset: f.offset,
             length: f.length,
             unordered: f.unordered != 0,

@@ -93,25 +93,25 @@ impl Sender {
     }
 
     /// How messages that are written from now on are delivered: `rel_val` is a number of retransmissions for `Rexmit`, a lifetime in milliseconds
-    /// for `Timed`.
+    /// for `Timed`. The limit of `Rexmit` is the host's to keep, by [`abandon`](Sender::abandon): the sender does not know what is sent again.
     ///
     /// Refused: [`NotOpen`](Refusal::NotOpen).
     pub fn set_reliability_params(&mut self, stream: StreamId, unordered: bool, rel_type: ReliabilityType, rel_val: u32) -> Result<(), Refusal> {
-        answer(sys::girdermoth_set_reliability(&mut self.0, stream, unordered, rel_type as u8, rel_val)).map(drop)
+        answer(sys::girdermoth_set_reliability_params(&mut self.0, stream, unordered, rel_type as u8, rel_val)).map(drop)
     }
 
     /// Sets the amount that [`on_buffer_released`](Sender::on_buffer_released) tells the fall to.
     ///
     /// Refused: [`NotOpen`](Refusal::NotOpen).
     pub fn set_buffered_amount_low_threshold(&mut self, stream: StreamId, threshold: u64) -> Result<(), Refusal> {
-        answer(sys::girdermoth_set_low_threshold(&mut self.0, stream, threshold)).map(drop)
+        answer(sys::girdermoth_set_buffered_amount_low_threshold(&mut self.0, stream, threshold)).map(drop)
     }
 
     /// Sets the amount that [`write`](Sender::write) tells the rise to.
     ///
     /// Refused: [`NotOpen`](Refusal::NotOpen).
     pub fn set_buffered_amount_high_threshold(&mut self, stream: StreamId, threshold: u64) -> Result<(), Refusal> {
-        answer(sys::girdermoth_set_high_threshold(&mut self.0, stream, threshold)).map(drop)
+        answer(sys::girdermoth_set_buffered_amount_high_threshold(&mut self.0, stream, threshold)).map(drop)
     }
 
     /// Bytes of the stream have left: acknowledged, expired or abandoned. Answers whether the buffered amount fell from above the low threshold to
@@ -119,7 +119,7 @@ impl Sender {
     ///
     /// Refused: [`NotOpen`](Refusal::NotOpen).
     pub fn on_buffer_released(&mut self, stream: StreamId, bytes: i64) -> Result<bool, Refusal> {
-        answer(sys::girdermoth_release(&mut self.0, stream, bytes)).map(|reply| reply.yes != 0)
+        answer(sys::girdermoth_on_buffer_released(&mut self.0, stream, bytes)).map(|reply| reply.yes != 0)
     }
 
     /// The bytes that were written on the stream and not yet released.
@@ -131,19 +131,19 @@ impl Sender {
 
     /// Refused: [`NotOpen`](Refusal::NotOpen).
     pub fn buffered_amount_low_threshold(&self, stream: StreamId) -> Result<u64, Refusal> {
-        answer(sys::girdermoth_low_threshold(&self.0, stream)).map(|reply| reply.value)
+        answer(sys::girdermoth_buffered_amount_low_threshold(&self.0, stream)).map(|reply| reply.value)
     }
 
     /// Refused: [`NotOpen`](Refusal::NotOpen).
     pub fn buffered_amount_high_threshold(&self, stream: StreamId) -> Result<u64, Refusal> {
-        answer(sys::girdermoth_high_threshold(&self.0, stream)).map(|reply| reply.value)
+        answer(sys::girdermoth_buffered_amount_high_threshold(&self.0, stream)).map(|reply| reply.value)
     }
 
     /// What the stream has accepted.
     ///
     /// Refused: [`NotOpen`](Refusal::NotOpen).
     pub fn stats(&self, stream: StreamId) -> Result<DataChannelStats, Refusal> {
-        let counts = sys::girdermoth_statistics(&self.0, stream);
+        let counts = sys::girdermoth_stats(&self.0, stream);
         Refusal::check(counts.refusal).map(|()| DataChannelStats { messages_sent: counts.messages, bytes_sent: counts.bytes })
     }
 
@@ -152,7 +152,8 @@ impl Sender {
     /// Writes a message: cut in fragments, it becomes pending. Its bytes are the caller's from `offset` on, `length` of them. Answers whether the
     /// buffered amount rose from below the high threshold to it or above.
     ///
-    /// A message of length 0 has no fragment and takes no number; if it is ordered it takes an SSN all the same.
+    /// The rings are shared by all streams. A message of length 0 has no fragment and takes no number. Do not write an ordered one: it takes an SSN
+    /// that no chunk carries, so that its stream is stopped for good.
     ///
     /// Refused, in this order: [`NotOpen`](Refusal::NotOpen), [`MessageLong`](Refusal::MessageLong), [`BeyondLimit`](Refusal::BeyondLimit)
     /// (the offset), [`BufferFull`](Refusal::BufferFull), [`RingFull`](Refusal::RingFull), [`NumbersSpent`](Refusal::NumbersSpent).
@@ -164,15 +165,15 @@ impl Sender {
     ///
     /// Refused: [`BeyondLimit`](Refusal::BeyondLimit).
     pub fn start_timed_messages(&mut self, now: u64) -> Result<(), Refusal> {
-        answer(sys::girdermoth_start_lifetimes(&mut self.0, now)).map(drop)
+        answer(sys::girdermoth_start_timed_messages(&mut self.0, now)).map(drop)
     }
 
     /// Takes the next chunk from what is pending, gives it the next TSN and files it in flight; nothing if nothing is pending. It never looks at
-    /// deadlines: call the two expiries before.
+    /// deadlines: call the two expiries before each call of it.
     ///
     /// Refused: [`BeyondLimit`](Refusal::BeyondLimit), [`FlightFull`](Refusal::FlightFull).
     pub fn send_next(&mut self, now: u64) -> Result<Option<Chunk>, Refusal> {
-        let fragment = sys::girdermoth_send(&mut self.0, now);
+        let fragment = sys::girdermoth_send_next(&mut self.0, now);
         Refusal::check(fragment.refusal).map(|()| Chunk::from_fragment(&fragment))
     }
 
@@ -190,11 +191,12 @@ impl Sender {
     /// Refused: [`BeyondLimit`](Refusal::BeyondLimit).
     pub fn expire_pending_tail(&mut self, now: u64) -> Result<Option<ExpiredTail>, Refusal> {
         let gone = freed(sys::girdermoth_expire_pending_tail(&mut self.0, now))?;
-        Ok(gone.map(|gone| ExpiredTail { stream_identifier: gone.stream, message_id: gone.number, bytes: gone.bytes }))
+        Ok(gone.map(|gone| ExpiredTail { stream_identifier: gone.stream, message_id: gone.message_id, bytes: gone.bytes }))
     }
 
     /// Abandons the message of a TSN in flight, whatever its reliability: all its entries are marked, its pending fragments go, and if there were
-    /// any, one terminator takes their place. Nothing for a TSN that is not in flight.
+    /// any, one terminator takes their place: an entry without bytes that is never sent, and of which the peer hears by FORWARD-TSN. Nothing for a
+    /// TSN that is not in flight.
     pub fn abandon(&mut self, tsn: u32) -> Option<Abandoned> {
         let gone = sys::girdermoth_abandon(&mut self.0, tsn);
         (gone.some != 0).then_some(Abandoned { stream_identifier: gone.stream, bytes: gone.bytes })
@@ -205,7 +207,7 @@ impl Sender {
     /// The entry of a TSN is acknowledged. Answers the bytes that it held, which it now lets go; 0 for an entry that held none and for an unknown
     /// TSN.
     pub fn mark_as_acked(&mut self, tsn: u32) -> u64 {
-        sys::girdermoth_acknowledge(&mut self.0, tsn).value
+        sys::girdermoth_mark_as_acked(&mut self.0, tsn).value
     }
 
     /// Takes the oldest entry out of the flight, if it has this TSN.
@@ -215,7 +217,7 @@ impl Sender {
 
     /// Marks every entry that is neither acknowledged nor abandoned for retransmission.
     pub fn mark_all_to_retransmit(&mut self) {
-        sys::girdermoth_mark_all(&mut self.0);
+        sys::girdermoth_mark_all_to_retransmit(&mut self.0);
     }
 
     /// The TSNs in flight whose message has expired and is not yet wholly acknowledged, or has a rest pending; oldest first. They are written to
@@ -246,7 +248,7 @@ impl Sender {
 
     /// The number of the next message.
     pub fn next_message_id(&self) -> u64 {
-        sys::girdermoth_next_message(&self.0).value
+        sys::girdermoth_next_message_id(&self.0).value
     }
 
     /// The TSN of the next chunk that is sent, or of the next terminator.
@@ -256,7 +258,7 @@ impl Sender {
 
     /// How many chunks are pending.
     pub fn pending_len(&self) -> usize {
-        sys::girdermoth_pending_length(&self.0).value as usize
+        sys::girdermoth_pending_len(&self.0).value as usize
     }
 
     /// How many bytes are pending.
@@ -266,7 +268,7 @@ impl Sender {
 
     /// How many entries the flight has, terminators among them.
     pub fn inflight_len(&self) -> usize {
-        sys::girdermoth_inflight_length(&self.0).value as usize
+        sys::girdermoth_inflight_len(&self.0).value as usize
     }
 
     /// How many bytes the entries of the flight hold.
@@ -276,7 +278,7 @@ impl Sender {
 
     /// The oldest TSN in flight that is neither acknowledged nor abandoned.
     pub fn earliest_outstanding_tsn(&self) -> Option<u32> {
-        let reply = sys::girdermoth_earliest_outstanding(&self.0);
+        let reply = sys::girdermoth_earliest_outstanding_tsn(&self.0);
         (reply.yes != 0).then_some(reply.value as u32)
     }
 

@@ -70,12 +70,12 @@ pub(crate) struct Reply {
     pub(crate) yes: u8,
 }
 
-/// What an expiry or an abandonment freed, where `some` is set. `number` is the message's after expire_pending_tail, and else 0;
-/// `unordered` is told by expire_pending alone.
+/// What an expiry or an abandonment freed, where `some` is set; `bytes` is for girdermoth_on_buffer_released. `message_id` is the message's number
+/// after girdermoth_expire_pending_tail, and else 0; `unordered` is told by girdermoth_expire_pending alone.
 #[repr(C)]
 #[derive(Clone, Copy, Debug, PartialEq)]
 pub(crate) struct Freed {
-    pub(crate) number: u64,
+    pub(crate) message_id: u64,
     pub(crate) bytes: u64,
     pub(crate) stream: u16,
     pub(crate) refusal: u8,
@@ -83,11 +83,14 @@ pub(crate) struct Freed {
     pub(crate) unordered: u8,
 }
 
-/// A chunk, where `some` is set. `length` counts the bytes that it still holds; `deadline` and `since` are 0 where they are absent.
+/// A chunk, where `some` is set. Its bytes are the host's, from `offset` on; `length` counts those that it still holds, and is 0 once it is acknowledged
+/// or abandoned. `protocol` is the payload type, `kind` and `value` the reliability that the stream had at the write. `deadline` is when the message's
+/// lifetime ends, `since` when girdermoth_send_next gave the chunk out; both are 0 where they are absent. `nsent` is 1 in flight, 0 before and for a
+/// terminator: what the host sends again is not counted. `retransmit` stays set until the entry is acknowledged or abandoned.
 #[repr(C)]
 #[derive(Clone, Copy, Debug, PartialEq)]
 pub(crate) struct Fragment {
-    pub(crate) number: u64,
+    pub(crate) message_id: u64,
     pub(crate) offset: u64,
     pub(crate) deadline: u64,
     pub(crate) since: u64,
@@ -189,9 +192,9 @@ layout!(Head: 112, 8; unordered_start 0, unordered_len 8, ordered_start 16, orde
     flight_start 48, flight_len 56, oldest 64, flight_bytes 72, due 80, next_message 88, next_unstarted 96, streams 104);
 layout!(Sender: 53360, 8; head 0, cells 112);
 layout!(Reply: 16, 8; value 0, refusal 8, yes 9);
-layout!(Freed: 24, 8; number 0, bytes 8, stream 16, refusal 18, some 19, unordered 20);
-layout!(Fragment: 72, 8; number 0, offset 8, deadline 16, since 24, tsn 32, length 36, protocol 40, value 44, nsent 48, stream 52, ssn 54, kind 56,
-    refusal 57, some 58, has_deadline 59, has_since 60, unordered 61, beginning 62, ending 63, acked 64, abandoned 65, retransmit 66);
+layout!(Freed: 24, 8; message_id 0, bytes 8, stream 16, refusal 18, some 19, unordered 20);
+layout!(Fragment: 72, 8; message_id 0, offset 8, deadline 16, since 24, tsn 32, length 36, protocol 40, value 44, nsent 48, stream 52, ssn 54,
+    kind 56, refusal 57, some 58, has_deadline 59, has_since 60, unordered 61, beginning 62, ending 63, acked 64, abandoned 65, retransmit 66);
 layout!(Counts: 24, 8; messages 0, bytes 8, refusal 16);
 layout!(Rto: 56, 8; rto_initial 0, rto_min 8, rto_max 16, no_update 24, srtt 32, rttvar 40, rto 48);
 layout!(Timer: 24, 8; deadline 0, maximum 8, retrans 16, has_deadline 20, has_maximum 21, suppressed 22, unused 23);
@@ -209,42 +212,42 @@ unsafe extern "C" {
     // ---- a fresh sender, and its streams
     pub(crate) safe fn girdermoth_init(s: &mut Sender, tsn: u32, number: u64) -> Reply;
     pub(crate) safe fn girdermoth_open_stream(s: &mut Sender, identifier: u16, maximum: u32) -> Reply;
-    pub(crate) safe fn girdermoth_set_reliability(s: &mut Sender, identifier: u16, unordered: bool, kind: u8, value: u32) -> Reply;
-    pub(crate) safe fn girdermoth_set_low_threshold(s: &mut Sender, identifier: u16, low: u64) -> Reply;
-    pub(crate) safe fn girdermoth_set_high_threshold(s: &mut Sender, identifier: u16, high: u64) -> Reply;
-    pub(crate) safe fn girdermoth_release(s: &mut Sender, identifier: u16, released: i64) -> Reply;
+    pub(crate) safe fn girdermoth_set_reliability_params(s: &mut Sender, identifier: u16, unordered: bool, kind: u8, value: u32) -> Reply;
+    pub(crate) safe fn girdermoth_set_buffered_amount_low_threshold(s: &mut Sender, identifier: u16, low: u64) -> Reply;
+    pub(crate) safe fn girdermoth_set_buffered_amount_high_threshold(s: &mut Sender, identifier: u16, high: u64) -> Reply;
+    pub(crate) safe fn girdermoth_on_buffer_released(s: &mut Sender, identifier: u16, released: i64) -> Reply;
 
     // ---- messages. The clock is in milliseconds, at most GIRDERMOTH_CLOCK_MAX, and may go back
     pub(crate) safe fn girdermoth_write(s: &mut Sender, identifier: u16, protocol: u32, offset: u64, length: u64) -> Reply;
-    pub(crate) safe fn girdermoth_start_lifetimes(s: &mut Sender, clock: u64) -> Reply;
-    pub(crate) safe fn girdermoth_send(s: &mut Sender, clock: u64) -> Fragment;
+    pub(crate) safe fn girdermoth_start_timed_messages(s: &mut Sender, clock: u64) -> Reply;
+    pub(crate) safe fn girdermoth_send_next(s: &mut Sender, clock: u64) -> Fragment;
     pub(crate) safe fn girdermoth_expire_pending(s: &mut Sender, clock: u64) -> Freed;
     pub(crate) safe fn girdermoth_expire_pending_tail(s: &mut Sender, clock: u64) -> Freed;
     pub(crate) safe fn girdermoth_abandon(s: &mut Sender, tsn: u32) -> Freed;
 
     // ---- the flight
-    pub(crate) safe fn girdermoth_acknowledge(s: &mut Sender, tsn: u32) -> Reply;
+    pub(crate) safe fn girdermoth_mark_as_acked(s: &mut Sender, tsn: u32) -> Reply;
     pub(crate) safe fn girdermoth_pop(s: &mut Sender, tsn: u32) -> Fragment;
-    pub(crate) safe fn girdermoth_mark_all(s: &mut Sender) -> Reply;
+    pub(crate) safe fn girdermoth_mark_all_to_retransmit(s: &mut Sender) -> Reply;
     unsafe fn girdermoth_expired_inflight(s: &mut Sender, list: *mut u32, room: usize, clock: u64) -> Reply;
 
     // ---- questions. None is refused but where it says so
     pub(crate) safe fn girdermoth_get(s: &Sender, tsn: u32) -> Fragment;
     pub(crate) safe fn girdermoth_is_abandoned(s: &Sender, tsn: u32) -> Reply;
     pub(crate) safe fn girdermoth_peek_pending(s: &Sender) -> Fragment;
-    pub(crate) safe fn girdermoth_next_message(s: &Sender) -> Reply;
+    pub(crate) safe fn girdermoth_next_message_id(s: &Sender) -> Reply;
     pub(crate) safe fn girdermoth_next_tsn(s: &Sender) -> Reply;
-    pub(crate) safe fn girdermoth_pending_length(s: &Sender) -> Reply;
+    pub(crate) safe fn girdermoth_pending_len(s: &Sender) -> Reply;
     pub(crate) safe fn girdermoth_pending_bytes(s: &Sender) -> Reply;
-    pub(crate) safe fn girdermoth_inflight_length(s: &Sender) -> Reply;
+    pub(crate) safe fn girdermoth_inflight_len(s: &Sender) -> Reply;
     pub(crate) safe fn girdermoth_inflight_bytes(s: &Sender) -> Reply;
-    pub(crate) safe fn girdermoth_earliest_outstanding(s: &Sender) -> Reply;
+    pub(crate) safe fn girdermoth_earliest_outstanding_tsn(s: &Sender) -> Reply;
     pub(crate) safe fn girdermoth_pending_contains_stream(s: &Sender, identifier: u16) -> Reply;
     pub(crate) safe fn girdermoth_contains_stream(s: &Sender, identifier: u16) -> Reply;
     pub(crate) safe fn girdermoth_buffered_amount(s: &Sender, identifier: u16) -> Reply;
-    pub(crate) safe fn girdermoth_low_threshold(s: &Sender, identifier: u16) -> Reply;
-    pub(crate) safe fn girdermoth_high_threshold(s: &Sender, identifier: u16) -> Reply;
-    pub(crate) safe fn girdermoth_statistics(s: &Sender, identifier: u16) -> Counts;
+    pub(crate) safe fn girdermoth_buffered_amount_low_threshold(s: &Sender, identifier: u16) -> Reply;
+    pub(crate) safe fn girdermoth_buffered_amount_high_threshold(s: &Sender, identifier: u16) -> Reply;
+    pub(crate) safe fn girdermoth_stats(s: &Sender, identifier: u16) -> Counts;
 
     // ---- the round-trip estimator: one struct that the caller owns, and lends to each call as it does a sender
     pub(crate) safe fn girdermoth_rto_new(s: &mut Rto, initial: u64, low: u64, high: u64) -> u8;

@@ -1,4 +1,4 @@
-//! The timers and the round-trip estimator: 01's examples, and each call with its answer.
+//! The timers and the round-trip estimator: the worked examples, and each call with its answer.
 
 use girdermoth::*;
 

@@ -11,7 +11,7 @@ fn open(maximum: u32) -> Sender {
     s
 }
 
-/// The number and the sentence of each, in 01's order.
+/// The number and the sentence of each, in their order.
 const SAID: [(Refusal, &str); 12] = [
     (Refusal::BeyondLimit, "a number is beyond its limit"),
     (Refusal::BadBounds, "the payload maximum is outside 1 to 65,515, or the RTO minimum is above the maximum"),

@@ -1,4 +1,4 @@
-//! 01's walk, through the crate: the lines that the proved program writes.
+//! The walk, through the crate: the lines that the proved program writes.
 
 use girdermoth::{Abandoned, Chunk, PayloadProtocolIdentifier, ReliabilityType, Sender};
 

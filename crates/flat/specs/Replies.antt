@@ -87,7 +87,7 @@ flatCounted a = countsIn (toldCounted a)
 abbrev pub fragmentIn : (tsn : ℕ) → Told → Fragment
 fragmentIn tsn t =
     record {
-      number = valueAt 4 t;
+      «message_id» = valueAt 4 t;
       offset = valueAt 9 t;
       deadline = valueAt 8 t;
       since = valueAt 14 t;
@@ -133,7 +133,7 @@ flatFound tsn a = fragmentIn tsn (toldFound a)
 
 -- stream, U, bytes
 abbrev pub expiredIn : Told → Freed
-expiredIn t = record { number = 0; bytes = valueAt 2 t; stream = valueAt 0 t; refusal = t .number; some = given t; unordered = flagAt 1 t }
+expiredIn t = record { «message_id» = 0; bytes = valueAt 2 t; stream = valueAt 0 t; refusal = t .number; some = given t; unordered = flagAt 1 t }
 
 -- with nothing but 01's number
 abbrev pub noneFreed : ℕ → Freed
@@ -144,14 +144,14 @@ flatExpired a = expiredIn (toldExpired a)
 
 -- stream, message number, bytes
 abbrev pub tailIn : Told → Freed
-tailIn t = record { number = valueAt 1 t; bytes = valueAt 2 t; stream = valueAt 0 t; refusal = t .number; some = given t; unordered = false }
+tailIn t = record { «message_id» = valueAt 1 t; bytes = valueAt 2 t; stream = valueAt 0 t; refusal = t .number; some = given t; unordered = false }
 
 abbrev pub flatTail : TailExpired → Freed
 flatTail a = tailIn (toldTail a)
 
 -- stream, bytes
 abbrev pub abandonedIn : Told → Freed
-abandonedIn t = record { number = 0; bytes = valueAt 1 t; stream = valueAt 0 t; refusal = t .number; some = given t; unordered = false }
+abandonedIn t = record { «message_id» = 0; bytes = valueAt 1 t; stream = valueAt 0 t; refusal = t .number; some = given t; unordered = false }
 
 abbrev pub flatAbandoned : Abandoned → Freed
 flatAbandoned a = abandonedIn (toldAbandoned a)

@@ -14,7 +14,7 @@ pub struct Reply {
 // What an expiry or an abandonment freed, where `some` is set.
 #[repr(C)]
 pub struct Freed {
-    pub number: u64,
+    pub message_id: u64,
     pub bytes: u64,
     pub stream: u16,
     pub refusal: u8,
@@ -25,7 +25,7 @@ pub struct Freed {
 // A chunk, where `some` is set.
 #[repr(C)]
 pub struct Fragment {
-    pub number: u64,
+    pub message_id: u64,
     pub offset: u64,
     pub deadline: u64,
     pub since: u64,

@@ -154,7 +154,7 @@ fn of_chunk(tsn: u32, c: Chunk) -> Fragment
     let deadline = time_of(until);
     let sent = time_of(since);
     Fragment {
-        number: c.message.number,
+        message_id: c.message.number,
         offset: c.offset,
         deadline: deadline,
         since: sent,
@@ -183,7 +183,7 @@ fn no_fragment(number: u8) -> Fragment
     ensures { λ r. ⌜ r ≡ noFragment number ⌝ }
 {
     Fragment {
-        number: 0,
+        message_id: 0,
         offset: 0,
         deadline: 0,
         since: 0,
@@ -236,7 +236,7 @@ fn none_freed(number: u8) -> Freed
     ensures { λ r. ⌜ r ≡ noneFreed number ⌝ }
 {
     Freed {
-        number: 0,
+        message_id: 0,
         bytes: 0,
         stream: 0,
         refusal: number,
@@ -254,7 +254,7 @@ pub fn expired(a: Expired) -> Freed
             unordered,
             bytes,
         } => Freed {
-            number: 0,
+            message_id: 0,
             bytes: bytes,
             stream: stream,
             refusal: 0,
@@ -275,7 +275,7 @@ pub fn tail(a: TailExpired) -> Freed
             number,
             bytes,
         } => Freed {
-            number: number,
+            message_id: number,
             bytes: bytes,
             stream: stream,
             refusal: 0,
@@ -292,7 +292,7 @@ pub fn abandoned(a: Abandoned) -> Freed
 {
     match a {
         Abandoned::Message { stream, bytes } => Freed {
-            number: 0,
+            message_id: 0,
             bytes: bytes,
             stream: stream,
             refusal: 0,

@@ -37,20 +37,20 @@ abbrev pub OpenStream : Room → (identifier maximum : ℕ) → Head → List �
 OpenStream room identifier maximum = GoesOrStays refusalOfReply flatDone (openStream room identifier maximum)
 
 -- How messages that are written from now on are delivered. Refusal: 3.
-abbrev pub SetReliability : (identifier : ℕ) → (unordered : Bool) → (kind value : ℕ) → Head → List ℕ → Head → List ℕ → Reply → Type 0
-SetReliability identifier unordered kind value = GoesOrStays refusalOfReply flatDone (setReliability identifier unordered kind value)
+abbrev pub SetReliabilityParams : (identifier : ℕ) → (unordered : Bool) → (kind value : ℕ) → Head → List ℕ → Head → List ℕ → Reply → Type 0
+SetReliabilityParams identifier unordered kind value = GoesOrStays refusalOfReply flatDone (setReliability identifier unordered kind value)
 
 -- A release that brings the buffered amount from above this to it or below is answered yes. Refusal: 3.
-abbrev pub SetLowThreshold : (identifier low : ℕ) → Head → List ℕ → Head → List ℕ → Reply → Type 0
-SetLowThreshold identifier low = GoesOrStays refusalOfReply flatDone (setLow identifier low)
+abbrev pub SetBufferedAmountLowThreshold : (identifier low : ℕ) → Head → List ℕ → Head → List ℕ → Reply → Type 0
+SetBufferedAmountLowThreshold identifier low = GoesOrStays refusalOfReply flatDone (setLow identifier low)
 
 -- A message that brings the buffered amount from below this to it or above is answered yes. Refusal: 3.
-abbrev pub SetHighThreshold : (identifier high : ℕ) → Head → List ℕ → Head → List ℕ → Reply → Type 0
-SetHighThreshold identifier high = GoesOrStays refusalOfReply flatDone (setHigh identifier high)
+abbrev pub SetBufferedAmountHighThreshold : (identifier high : ℕ) → Head → List ℕ → Head → List ℕ → Reply → Type 0
+SetBufferedAmountHighThreshold identifier high = GoesOrStays refusalOfReply flatDone (setHigh identifier high)
 
 -- Bytes of a stream have left the sender; `yes` where the amount fell to the low threshold. Refusal: 3.
-abbrev pub Release : (identifier : ℕ) → (released : ℤ) → Head → List ℕ → Head → List ℕ → Reply → Type 0
-Release identifier released = GoesOrStays refusalOfReply flatReleased (release identifier released)
+abbrev pub OnBufferReleased : (identifier : ℕ) → (released : ℤ) → Head → List ℕ → Head → List ℕ → Reply → Type 0
+OnBufferReleased identifier released = GoesOrStays refusalOfReply flatReleased (release identifier released)
 
 -- ---- messages
 
@@ -59,12 +59,12 @@ abbrev pub Write : Room → (identifier protocol offset length : ℕ) → Head �
 Write room identifier protocol offset length = GoesOrStays refusalOfReply flatWritten (write room identifier protocol offset length)
 
 -- Starts the lifetimes of the messages not yet seen. Refusal: 1.
-abbrev pub StartLifetimes : Room → (clock : ℕ) → Head → List ℕ → Head → List ℕ → Reply → Type 0
-StartLifetimes room clock = LeansOrStays refusalOfReply flatDone room (leanStart clock) (startLifetimes clock)
+abbrev pub StartTimedMessages : Room → (clock : ℕ) → Head → List ℕ → Head → List ℕ → Reply → Type 0
+StartTimedMessages room clock = LeansOrStays refusalOfReply flatDone room (leanStart clock) (startLifetimes clock)
 
 -- The next chunk goes to the flight. Refusals: 1; 10 where a chunk is pending.
-abbrev pub Send : Room → (clock : ℕ) → Head → List ℕ → Head → List ℕ → Fragment → Type 0
-Send room clock = LeansOrStays refusalOfFragment flatSent room (leanSend room clock) (send room clock)
+abbrev pub SendNext : Room → (clock : ℕ) → Head → List ℕ → Head → List ℕ → Fragment → Type 0
+SendNext room clock = LeansOrStays refusalOfFragment flatSent room (leanSend room clock) (send room clock)
 
 -- The message at the head goes if it is due, and takes no TSN. Refusal: 1.
 abbrev pub ExpirePending : Room → (clock : ℕ) → Head → List ℕ → Head → List ℕ → Freed → Type 0
@@ -81,16 +81,16 @@ Abandon room tsn = Leans flatAbandoned room (leanAbandon room tsn) (abandon tsn)
 -- ---- the flight
 
 -- The entry of a TSN is acknowledged; the value is the bytes that it held.
-abbrev pub Acknowledge : (tsn : ℕ) → Head → List ℕ → Head → List ℕ → Reply → Type 0
-Acknowledge tsn = Goes numberIs (acknowledge tsn)
+abbrev pub MarkAsAcked : (tsn : ℕ) → Head → List ℕ → Head → List ℕ → Reply → Type 0
+MarkAsAcked tsn = Goes numberIs (acknowledge tsn)
 
 -- Takes the oldest entry, if it has this TSN.
 abbrev pub Pop : (tsn : ℕ) → Head → List ℕ → Head → List ℕ → Fragment → Type 0
 Pop tsn = Goes (flatFound tsn) (pop tsn)
 
 -- Every entry that is neither acknowledged nor abandoned is to be retransmitted.
-abbrev pub MarkAll : Head → List ℕ → Head → List ℕ → Reply → Type 0
-MarkAll = Goes onlyNumber (doing markAll)
+abbrev pub MarkAllToRetransmit : Head → List ℕ → Head → List ℕ → Reply → Type 0
+MarkAllToRetransmit = Goes onlyNumber (doing markAll)
 
 -- The TSNs in flight whose message has expired, in the front of the lent list; the value is how many. What is pending and in flight stays. Refusals: 1, 11.
 abbrev pub ExpiredInflight : Room → (list : List ℕ) → (clock : ℕ) → Head → List ℕ → Head → List ℕ → List ℕ → Reply → Type 0
@@ -111,32 +111,32 @@ abbrev pub PeekPending : Head → List ℕ → Fragment → Type 0
 PeekPending = Asks (flatFound 0) (λ s. found (head (s .pending)))
 
 -- The number of the next message.
-abbrev pub NextMessage : Head → List ℕ → Reply → Type 0
-NextMessage = Asks numberIs (λ s. s .numbers .next)
+abbrev pub NextMessageId : Head → List ℕ → Reply → Type 0
+NextMessageId = Asks numberIs (λ s. s .numbers .next)
 
 -- The TSN of the next chunk that is sent.
 abbrev pub NextTsn : Head → List ℕ → Reply → Type 0
 NextTsn = Asks numberIs nextTsn
 
 -- How many chunks are pending.
-abbrev pub PendingLength : Head → List ℕ → Reply → Type 0
-PendingLength = Asks numberIs (λ s. length (s .pending .unordered) + length (s .pending .ordered))
+abbrev pub PendingLen : Head → List ℕ → Reply → Type 0
+PendingLen = Asks numberIs (λ s. length (s .pending .unordered) + length (s .pending .ordered))
 
 -- How many bytes are pending.
 abbrev pub PendingBytes : Head → List ℕ → Reply → Type 0
 PendingBytes = Sums numberIs (λ h. h .queue .pending .bytes) (λ s. bytes (s .pending .unordered) + bytes (s .pending .ordered))
 
 -- How many entries the flight has.
-abbrev pub InflightLength : Head → List ℕ → Reply → Type 0
-InflightLength = Asks numberIs (λ s. length (s .flight .entries))
+abbrev pub InflightLen : Head → List ℕ → Reply → Type 0
+InflightLen = Asks numberIs (λ s. length (s .flight .entries))
 
 -- How many bytes the entries in flight hold.
 abbrev pub InflightBytes : Head → List ℕ → Reply → Type 0
 InflightBytes = Sums numberIs (λ h. h .queue .inflight .bytes) (λ s. bytes (s .flight .entries))
 
 -- The oldest TSN that is neither acknowledged nor abandoned, where `yes` is set.
-abbrev pub EarliestOutstanding : Head → List ℕ → Reply → Type 0
-EarliestOutstanding = Asks flatEarliest earliestOutstanding
+abbrev pub EarliestOutstandingTsn : Head → List ℕ → Reply → Type 0
+EarliestOutstandingTsn = Asks flatEarliest earliestOutstanding
 
 -- Whether a stream has chunks pending.
 abbrev pub PendingContainsStream : (identifier : ℕ) → Head → List ℕ → Reply → Type 0
@@ -151,13 +151,13 @@ abbrev pub BufferedAmount : (identifier : ℕ) → Head → List ℕ → Reply �
 BufferedAmount identifier = Asks flatAmount (λ s. amount (find identifier (s .streams)) (λ t. t .buffered))
 
 -- The low threshold of a stream. Refusal: 3.
-abbrev pub LowThreshold : (identifier : ℕ) → Head → List ℕ → Reply → Type 0
-LowThreshold identifier = Asks flatAmount (λ s. amount (find identifier (s .streams)) (λ t. t .low))
+abbrev pub BufferedAmountLowThreshold : (identifier : ℕ) → Head → List ℕ → Reply → Type 0
+BufferedAmountLowThreshold identifier = Asks flatAmount (λ s. amount (find identifier (s .streams)) (λ t. t .low))
 
 -- The high threshold of a stream. Refusal: 3.
-abbrev pub HighThreshold : (identifier : ℕ) → Head → List ℕ → Reply → Type 0
-HighThreshold identifier = Asks flatAmount (λ s. amount (find identifier (s .streams)) (λ t. t .high))
+abbrev pub BufferedAmountHighThreshold : (identifier : ℕ) → Head → List ℕ → Reply → Type 0
+BufferedAmountHighThreshold identifier = Asks flatAmount (λ s. amount (find identifier (s .streams)) (λ t. t .high))
 
 -- Messages and bytes sent on a stream. Refusal: 3.
-abbrev pub Statistics : (identifier : ℕ) → Head → List ℕ → Counts → Type 0
-Statistics identifier = Asks flatCounted (λ s. counts (find identifier (s .streams)))
+abbrev pub Stats : (identifier : ℕ) → Head → List ℕ → Counts → Type 0
+Stats identifier = Asks flatCounted (λ s. counts (find identifier (s .streams)))

@@ -8,9 +8,9 @@ use flat::SaidFragment;
 use flat::SaidFreed;
 use sender_head::Head;
 ghost use Rattle.sender_head.specs.Whole.{roomIn};
-ghost use Rattle.flat_calls.specs.Says.{Init, OpenStream, SetReliability, SetLowThreshold, SetHighThreshold, Release, Write, StartLifetimes, Send, ExpirePending, ExpirePendingTail, Abandon};
-ghost use Rattle.flat_calls.specs.Says.{Acknowledge, Pop, MarkAll, ExpiredInflight, Get, IsAbandoned, PeekPending, NextMessage, NextTsn, PendingLength, PendingBytes, InflightLength};
-ghost use Rattle.flat_calls.specs.Says.{InflightBytes, EarliestOutstanding, PendingContainsStream, ContainsStream, BufferedAmount, LowThreshold, HighThreshold, Statistics};
+ghost use Rattle.flat_calls.specs.Says.{Init, OpenStream, SetReliabilityParams, SetBufferedAmountLowThreshold, SetBufferedAmountHighThreshold, OnBufferReleased, Write, StartTimedMessages, SendNext, ExpirePending, ExpirePendingTail, Abandon};
+ghost use Rattle.flat_calls.specs.Says.{MarkAsAcked, Pop, MarkAllToRetransmit, ExpiredInflight, Get, IsAbandoned, PeekPending, NextMessageId, NextTsn, PendingLen, PendingBytes, InflightLen};
+ghost use Rattle.flat_calls.specs.Says.{InflightBytes, EarliestOutstandingTsn, PendingContainsStream, ContainsStream, BufferedAmount, BufferedAmountLowThreshold, BufferedAmountHighThreshold, Stats};
 
 // A fresh sender, whatever the bytes were: the first chunk takes the TSN `tsn`, the first message the number `number`. The cells stay.
 pub fn init(head: Head, cells: &mut [u64], tsn: u32, number: u64) -> Said
@@ -40,7 +40,7 @@ pub fn open_stream(head: Head, cells: &mut [u64], identifier: u16, maximum: u32)
 }
 
 // How messages that are written from now on are delivered. Refusal: 3.
-pub fn set_reliability(
+pub fn set_reliability_params(
     head: Head,
     cells: &mut [u64],
     identifier: u16,
@@ -48,7 +48,7 @@ pub fn set_reliability(
     kind: u8,
     value: u32,
 ) -> Said
-    ensures { λ r. ⌜ SetReliability identifier unordered kind value head (now (cells .entry)) (r .head) (now (cells .exit)) (r .reply) ⌝ }
+    ensures { λ r. ⌜ SetReliabilityParams identifier unordered kind value head (now (cells .entry)) (r .head) (now (cells .exit)) (r .reply) ⌝ }
 {
     let answer = sender_streams::set_reliability(head, cells, identifier, unordered, kind, value);
     let reply = flat::replies::done(answer);
@@ -59,8 +59,13 @@ pub fn set_reliability(
 }
 
 // A release that brings the buffered amount from above this to it or below is answered yes. Refusal: 3.
-pub fn set_low_threshold(head: Head, cells: &mut [u64], identifier: u16, low: u64) -> Said
-    ensures { λ r. ⌜ SetLowThreshold identifier low head (now (cells .entry)) (r .head) (now (cells .exit)) (r .reply) ⌝ }
+pub fn set_buffered_amount_low_threshold(
+    head: Head,
+    cells: &mut [u64],
+    identifier: u16,
+    low: u64,
+) -> Said
+    ensures { λ r. ⌜ SetBufferedAmountLowThreshold identifier low head (now (cells .entry)) (r .head) (now (cells .exit)) (r .reply) ⌝ }
 {
     let answer = sender_streams::set_low_threshold(head, cells, identifier, low);
     let reply = flat::replies::done(answer);
@@ -71,8 +76,13 @@ pub fn set_low_threshold(head: Head, cells: &mut [u64], identifier: u16, low: u6
 }
 
 // A message that brings the buffered amount from below this to it or above is answered yes. Refusal: 3.
-pub fn set_high_threshold(head: Head, cells: &mut [u64], identifier: u16, high: u64) -> Said
-    ensures { λ r. ⌜ SetHighThreshold identifier high head (now (cells .entry)) (r .head) (now (cells .exit)) (r .reply) ⌝ }
+pub fn set_buffered_amount_high_threshold(
+    head: Head,
+    cells: &mut [u64],
+    identifier: u16,
+    high: u64,
+) -> Said
+    ensures { λ r. ⌜ SetBufferedAmountHighThreshold identifier high head (now (cells .entry)) (r .head) (now (cells .exit)) (r .reply) ⌝ }
 {
     let answer = sender_streams::set_high_threshold(head, cells, identifier, high);
     let reply = flat::replies::done(answer);
@@ -83,8 +93,8 @@ pub fn set_high_threshold(head: Head, cells: &mut [u64], identifier: u16, high: 
 }
 
 // Bytes of a stream have left the sender; `yes` where the amount fell to the low threshold. Refusal: 3.
-pub fn release(head: Head, cells: &mut [u64], identifier: u16, released: i64) -> Said
-    ensures { λ r. ⌜ Release identifier released head (now (cells .entry)) (r .head) (now (cells .exit)) (r .reply) ⌝ }
+pub fn on_buffer_released(head: Head, cells: &mut [u64], identifier: u16, released: i64) -> Said
+    ensures { λ r. ⌜ OnBufferReleased identifier released head (now (cells .entry)) (r .head) (now (cells .exit)) (r .reply) ⌝ }
 {
     let answer = sender_streams::release(head, cells, identifier, released);
     let reply = flat::replies::released(answer);
@@ -117,8 +127,8 @@ pub fn write(
 }
 
 // Starts the lifetimes of the messages not yet seen. Refusal: 1.
-pub fn start_lifetimes(head: Head, cells: &mut [u64], clock: u64) -> Said
-    ensures { λ r. ⌜ StartLifetimes (roomIn (now (cells .entry))) clock head (now (cells .entry)) (r .head) (now (cells .exit)) (r .reply) ⌝ }
+pub fn start_timed_messages(head: Head, cells: &mut [u64], clock: u64) -> Said
+    ensures { λ r. ⌜ StartTimedMessages (roomIn (now (cells .entry))) clock head (now (cells .entry)) (r .head) (now (cells .exit)) (r .reply) ⌝ }
 {
     let own = sender_head::by_numbers(head);
     let after = sender_calls::start_lifetimes(own, cells, clock);
@@ -132,8 +142,8 @@ pub fn start_lifetimes(head: Head, cells: &mut [u64], clock: u64) -> Said
 }
 
 // The next chunk goes to the flight. Refusals: 1; 10 where a chunk is pending.
-pub fn send(head: Head, cells: &mut [u64], clock: u64) -> SaidFragment
-    ensures { λ r. ⌜ Send (roomIn (now (cells .entry))) clock head (now (cells .entry)) (r .head) (now (cells .exit)) (r .reply) ⌝ }
+pub fn send_next(head: Head, cells: &mut [u64], clock: u64) -> SaidFragment
+    ensures { λ r. ⌜ SendNext (roomIn (now (cells .entry))) clock head (now (cells .entry)) (r .head) (now (cells .exit)) (r .reply) ⌝ }
 {
     let own = sender_head::by_numbers(head);
     let after = sender_calls::send(own, cells, clock);
@@ -192,8 +202,8 @@ pub fn abandon(head: Head, cells: &mut [u64], tsn: u32) -> SaidFreed
 }
 
 // The entry of a TSN is acknowledged; the value is the bytes that it held.
-pub fn acknowledge(head: Head, cells: &mut [u64], tsn: u32) -> Said
-    ensures { λ r. ⌜ Acknowledge tsn head (now (cells .entry)) (r .head) (now (cells .exit)) (r .reply) ⌝ }
+pub fn mark_as_acked(head: Head, cells: &mut [u64], tsn: u32) -> Said
+    ensures { λ r. ⌜ MarkAsAcked tsn head (now (cells .entry)) (r .head) (now (cells .exit)) (r .reply) ⌝ }
 {
     let own = sender_head::by_numbers(head);
     let after = sender_calls::flight::acknowledge(own, cells, tsn);
@@ -222,8 +232,8 @@ pub fn pop(head: Head, cells: &mut [u64], tsn: u32) -> SaidFragment
 }
 
 // Every entry that is neither acknowledged nor abandoned is to be retransmitted.
-pub fn mark_all(head: Head, cells: &mut [u64]) -> Said
-    ensures { λ r. ⌜ MarkAll head (now (cells .entry)) (r .head) (now (cells .exit)) (r .reply) ⌝ }
+pub fn mark_all_to_retransmit(head: Head, cells: &mut [u64]) -> Said
+    ensures { λ r. ⌜ MarkAllToRetransmit head (now (cells .entry)) (r .head) (now (cells .exit)) (r .reply) ⌝ }
 {
     sender_calls::flight::mark_all(head, cells);
     let reply = flat::replies::only(0);
@@ -272,8 +282,8 @@ pub fn peek_pending(head: Head, cells: &[u64]) -> Fragment
 }
 
 // The number of the next message.
-pub fn next_message(head: Head, cells: &[u64]) -> Reply
-    ensures { λ r. ⌜ NextMessage head (now (cells .entry)) r ⌝ }
+pub fn next_message_id(head: Head, cells: &[u64]) -> Reply
+    ensures { λ r. ⌜ NextMessageId head (now (cells .entry)) r ⌝ }
 {
     let answer = sender_asks::next_message(head);
     flat::replies::number(answer)
@@ -288,8 +298,8 @@ pub fn next_tsn(head: Head, cells: &[u64]) -> Reply
 }
 
 // How many chunks are pending.
-pub fn pending_length(head: Head, cells: &[u64]) -> Reply
-    ensures { λ r. ⌜ PendingLength head (now (cells .entry)) r ⌝ }
+pub fn pending_len(head: Head, cells: &[u64]) -> Reply
+    ensures { λ r. ⌜ PendingLen head (now (cells .entry)) r ⌝ }
 {
     let answer = sender_asks::pending_length(head, cells);
     flat::replies::number(answer as u64)
@@ -304,8 +314,8 @@ pub fn pending_bytes(head: Head, cells: &[u64]) -> Reply
 }
 
 // How many entries the flight has.
-pub fn inflight_length(head: Head, cells: &[u64]) -> Reply
-    ensures { λ r. ⌜ InflightLength head (now (cells .entry)) r ⌝ }
+pub fn inflight_len(head: Head, cells: &[u64]) -> Reply
+    ensures { λ r. ⌜ InflightLen head (now (cells .entry)) r ⌝ }
 {
     let answer = sender_asks::inflight_length(head, cells);
     flat::replies::number(answer as u64)
@@ -320,8 +330,8 @@ pub fn inflight_bytes(head: Head, cells: &[u64]) -> Reply
 }
 
 // The oldest TSN that is neither acknowledged nor abandoned, where `yes` is set.
-pub fn earliest_outstanding(head: Head, cells: &[u64]) -> Reply
-    ensures { λ r. ⌜ EarliestOutstanding head (now (cells .entry)) r ⌝ }
+pub fn earliest_outstanding_tsn(head: Head, cells: &[u64]) -> Reply
+    ensures { λ r. ⌜ EarliestOutstandingTsn head (now (cells .entry)) r ⌝ }
 {
     let answer = sender_asks::earliest_outstanding(head, cells);
     flat::replies::earliest(answer)
@@ -352,24 +362,24 @@ pub fn buffered_amount(head: Head, cells: &[u64], identifier: u16) -> Reply
 }
 
 // The low threshold of a stream. Refusal: 3.
-pub fn low_threshold(head: Head, cells: &[u64], identifier: u16) -> Reply
-    ensures { λ r. ⌜ LowThreshold identifier head (now (cells .entry)) r ⌝ }
+pub fn buffered_amount_low_threshold(head: Head, cells: &[u64], identifier: u16) -> Reply
+    ensures { λ r. ⌜ BufferedAmountLowThreshold identifier head (now (cells .entry)) r ⌝ }
 {
     let answer = sender_asks::low_threshold(head, cells, identifier);
     flat::replies::amount(answer)
 }
 
 // The high threshold of a stream. Refusal: 3.
-pub fn high_threshold(head: Head, cells: &[u64], identifier: u16) -> Reply
-    ensures { λ r. ⌜ HighThreshold identifier head (now (cells .entry)) r ⌝ }
+pub fn buffered_amount_high_threshold(head: Head, cells: &[u64], identifier: u16) -> Reply
+    ensures { λ r. ⌜ BufferedAmountHighThreshold identifier head (now (cells .entry)) r ⌝ }
 {
     let answer = sender_asks::high_threshold(head, cells, identifier);
     flat::replies::amount(answer)
 }
 
 // Messages and bytes sent on a stream. Refusal: 3.
-pub fn statistics(head: Head, cells: &[u64], identifier: u16) -> Counts
-    ensures { λ r. ⌜ Statistics identifier head (now (cells .entry)) r ⌝ }
+pub fn stats(head: Head, cells: &[u64], identifier: u16) -> Counts
+    ensures { λ r. ⌜ Stats identifier head (now (cells .entry)) r ⌝ }
 {
     let answer = sender_asks::statistics(head, cells, identifier);
     flat::replies::counted(answer)

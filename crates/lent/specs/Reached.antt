@@ -19,7 +19,7 @@ use Rattle.flat.specs.declared.Reply.{Reply}
 use Rattle.flat.specs.declared.Fragment.{Fragment}
 use Rattle.flat.specs.Replies.{fragmentOf}
 use Rattle.lent.specs.declared.Sender.{Sender}
-use Rattle.lent.specs.Says.{Init, Send}
+use Rattle.lent.specs.Says.{Init, SendNext}
 use Rattle.lent.specs.Called.{Called}
 
 -- the model's sender
@@ -44,6 +44,6 @@ abbrev pub YieldsBelow255 : Type 0
 YieldsBelow255 =
     (tsn number : ℕ) → tsn < tsns → (ks : List Call) (s s′ : Sender) → Reached tsn number ks s
     → (clock : ℕ) → clock ≤ clockMax → SomePending (stateOf s) → length (stateOf s .flight .entries) < 255
-    → (y : Fragment) → Send clock s s′ y
+    → (y : Fragment) → SendNext clock s s′ y
     → (y .some ≡ true) × (y .tsn ≡ nextTsn (stateOf s))
     × ((d : Chunk) × (head (stateOf s .pending) ≡ some d) × (y ≡ fragmentOf (nextTsn (stateOf s)) (sentBy clock (stateOf s) d)))

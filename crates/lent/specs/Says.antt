@@ -23,20 +23,20 @@ abbrev pub OpenStream : (identifier maximum : ℕ) → Sender → Sender → Rep
 OpenStream identifier maximum s s′ y = Flat.OpenStream room01 identifier maximum (s .head) (s .cells) (s′ .head) (s′ .cells) y
 
 -- How messages that are written from now on are delivered. Refusal: 3.
-abbrev pub SetReliability : (identifier : ℕ) → (unordered : Bool) → (kind value : ℕ) → Sender → Sender → Reply → Type 0
-SetReliability identifier unordered kind value s s′ y = Flat.SetReliability identifier unordered kind value (s .head) (s .cells) (s′ .head) (s′ .cells) y
+abbrev pub SetReliabilityParams : (identifier : ℕ) → (unordered : Bool) → (kind value : ℕ) → Sender → Sender → Reply → Type 0
+SetReliabilityParams identifier unordered kind value s s′ y = Flat.SetReliabilityParams identifier unordered kind value (s .head) (s .cells) (s′ .head) (s′ .cells) y
 
 -- A release that brings the buffered amount from above this to it or below is answered yes. Refusal: 3.
-abbrev pub SetLowThreshold : (identifier low : ℕ) → Sender → Sender → Reply → Type 0
-SetLowThreshold identifier low s s′ y = Flat.SetLowThreshold identifier low (s .head) (s .cells) (s′ .head) (s′ .cells) y
+abbrev pub SetBufferedAmountLowThreshold : (identifier low : ℕ) → Sender → Sender → Reply → Type 0
+SetBufferedAmountLowThreshold identifier low s s′ y = Flat.SetBufferedAmountLowThreshold identifier low (s .head) (s .cells) (s′ .head) (s′ .cells) y
 
 -- A message that brings the buffered amount from below this to it or above is answered yes. Refusal: 3.
-abbrev pub SetHighThreshold : (identifier high : ℕ) → Sender → Sender → Reply → Type 0
-SetHighThreshold identifier high s s′ y = Flat.SetHighThreshold identifier high (s .head) (s .cells) (s′ .head) (s′ .cells) y
+abbrev pub SetBufferedAmountHighThreshold : (identifier high : ℕ) → Sender → Sender → Reply → Type 0
+SetBufferedAmountHighThreshold identifier high s s′ y = Flat.SetBufferedAmountHighThreshold identifier high (s .head) (s .cells) (s′ .head) (s′ .cells) y
 
 -- Bytes of a stream have left the sender; `yes` where the amount fell to the low threshold. Refusal: 3.
-abbrev pub Release : (identifier : ℕ) → (released : ℤ) → Sender → Sender → Reply → Type 0
-Release identifier released s s′ y = Flat.Release identifier released (s .head) (s .cells) (s′ .head) (s′ .cells) y
+abbrev pub OnBufferReleased : (identifier : ℕ) → (released : ℤ) → Sender → Sender → Reply → Type 0
+OnBufferReleased identifier released s s′ y = Flat.OnBufferReleased identifier released (s .head) (s .cells) (s′ .head) (s′ .cells) y
 
 -- ---- messages
 
@@ -45,12 +45,12 @@ abbrev pub Write : (identifier protocol offset length : ℕ) → Sender → Send
 Write identifier protocol offset length s s′ y = Flat.Write room01 identifier protocol offset length (s .head) (s .cells) (s′ .head) (s′ .cells) y
 
 -- Starts the lifetimes of the messages not yet seen. Refusal: 1.
-abbrev pub StartLifetimes : (clock : ℕ) → Sender → Sender → Reply → Type 0
-StartLifetimes clock s s′ y = Flat.StartLifetimes room01 clock (s .head) (s .cells) (s′ .head) (s′ .cells) y
+abbrev pub StartTimedMessages : (clock : ℕ) → Sender → Sender → Reply → Type 0
+StartTimedMessages clock s s′ y = Flat.StartTimedMessages room01 clock (s .head) (s .cells) (s′ .head) (s′ .cells) y
 
 -- The next chunk goes to the flight. Refusals: 1; 10 where a chunk is pending.
-abbrev pub Send : (clock : ℕ) → Sender → Sender → Fragment → Type 0
-Send clock s s′ y = Flat.Send room01 clock (s .head) (s .cells) (s′ .head) (s′ .cells) y
+abbrev pub SendNext : (clock : ℕ) → Sender → Sender → Fragment → Type 0
+SendNext clock s s′ y = Flat.SendNext room01 clock (s .head) (s .cells) (s′ .head) (s′ .cells) y
 
 -- The message at the head goes if it is due, and takes no TSN. Refusal: 1.
 abbrev pub ExpirePending : (clock : ℕ) → Sender → Sender → Freed → Type 0
@@ -67,16 +67,16 @@ Abandon tsn s s′ y = Flat.Abandon room01 tsn (s .head) (s .cells) (s′ .head)
 -- ---- the flight
 
 -- The entry of a TSN is acknowledged; the value is the bytes that it held.
-abbrev pub Acknowledge : (tsn : ℕ) → Sender → Sender → Reply → Type 0
-Acknowledge tsn s s′ y = Flat.Acknowledge tsn (s .head) (s .cells) (s′ .head) (s′ .cells) y
+abbrev pub MarkAsAcked : (tsn : ℕ) → Sender → Sender → Reply → Type 0
+MarkAsAcked tsn s s′ y = Flat.MarkAsAcked tsn (s .head) (s .cells) (s′ .head) (s′ .cells) y
 
 -- Takes the oldest entry, if it has this TSN.
 abbrev pub Pop : (tsn : ℕ) → Sender → Sender → Fragment → Type 0
 Pop tsn s s′ y = Flat.Pop tsn (s .head) (s .cells) (s′ .head) (s′ .cells) y
 
 -- Every entry that is neither acknowledged nor abandoned is to be retransmitted.
-abbrev pub MarkAll : Sender → Sender → Reply → Type 0
-MarkAll s s′ y = Flat.MarkAll (s .head) (s .cells) (s′ .head) (s′ .cells) y
+abbrev pub MarkAllToRetransmit : Sender → Sender → Reply → Type 0
+MarkAllToRetransmit s s′ y = Flat.MarkAllToRetransmit (s .head) (s .cells) (s′ .head) (s′ .cells) y
 
 -- The TSNs in flight whose message has expired, in the front of the lent list; the value is how many. What is pending and in flight stays. Refusals: 1, 11.
 abbrev pub ExpiredInflight : (list : List ℕ) → (clock : ℕ) → Sender → Sender → List ℕ → Reply → Type 0
@@ -97,32 +97,32 @@ abbrev pub PeekPending : Sender → Fragment → Type 0
 PeekPending s y = Flat.PeekPending (s .head) (s .cells) y
 
 -- The number of the next message.
-abbrev pub NextMessage : Sender → Reply → Type 0
-NextMessage s y = Flat.NextMessage (s .head) (s .cells) y
+abbrev pub NextMessageId : Sender → Reply → Type 0
+NextMessageId s y = Flat.NextMessageId (s .head) (s .cells) y
 
 -- The TSN of the next chunk that is sent.
 abbrev pub NextTsn : Sender → Reply → Type 0
 NextTsn s y = Flat.NextTsn (s .head) (s .cells) y
 
 -- How many chunks are pending.
-abbrev pub PendingLength : Sender → Reply → Type 0
-PendingLength s y = Flat.PendingLength (s .head) (s .cells) y
+abbrev pub PendingLen : Sender → Reply → Type 0
+PendingLen s y = Flat.PendingLen (s .head) (s .cells) y
 
 -- How many bytes are pending.
 abbrev pub PendingBytes : Sender → Reply → Type 0
 PendingBytes s y = Flat.PendingBytes (s .head) (s .cells) y
 
 -- How many entries the flight has.
-abbrev pub InflightLength : Sender → Reply → Type 0
-InflightLength s y = Flat.InflightLength (s .head) (s .cells) y
+abbrev pub InflightLen : Sender → Reply → Type 0
+InflightLen s y = Flat.InflightLen (s .head) (s .cells) y
 
 -- How many bytes the entries in flight hold.
 abbrev pub InflightBytes : Sender → Reply → Type 0
 InflightBytes s y = Flat.InflightBytes (s .head) (s .cells) y
 
 -- The oldest TSN that is neither acknowledged nor abandoned, where `yes` is set.
-abbrev pub EarliestOutstanding : Sender → Reply → Type 0
-EarliestOutstanding s y = Flat.EarliestOutstanding (s .head) (s .cells) y
+abbrev pub EarliestOutstandingTsn : Sender → Reply → Type 0
+EarliestOutstandingTsn s y = Flat.EarliestOutstandingTsn (s .head) (s .cells) y
 
 -- Whether a stream has chunks pending.
 abbrev pub PendingContainsStream : (identifier : ℕ) → Sender → Reply → Type 0
@@ -137,13 +137,13 @@ abbrev pub BufferedAmount : (identifier : ℕ) → Sender → Reply → Type 0
 BufferedAmount identifier s y = Flat.BufferedAmount identifier (s .head) (s .cells) y
 
 -- The low threshold of a stream. Refusal: 3.
-abbrev pub LowThreshold : (identifier : ℕ) → Sender → Reply → Type 0
-LowThreshold identifier s y = Flat.LowThreshold identifier (s .head) (s .cells) y
+abbrev pub BufferedAmountLowThreshold : (identifier : ℕ) → Sender → Reply → Type 0
+BufferedAmountLowThreshold identifier s y = Flat.BufferedAmountLowThreshold identifier (s .head) (s .cells) y
 
 -- The high threshold of a stream. Refusal: 3.
-abbrev pub HighThreshold : (identifier : ℕ) → Sender → Reply → Type 0
-HighThreshold identifier s y = Flat.HighThreshold identifier (s .head) (s .cells) y
+abbrev pub BufferedAmountHighThreshold : (identifier : ℕ) → Sender → Reply → Type 0
+BufferedAmountHighThreshold identifier s y = Flat.BufferedAmountHighThreshold identifier (s .head) (s .cells) y
 
 -- Messages and bytes sent on a stream. Refusal: 3.
-abbrev pub Statistics : (identifier : ℕ) → Sender → Counts → Type 0
-Statistics identifier s y = Flat.Statistics identifier (s .head) (s .cells) y
+abbrev pub Stats : (identifier : ℕ) → Sender → Counts → Type 0
+Stats identifier s y = Flat.Stats identifier (s .head) (s .cells) y

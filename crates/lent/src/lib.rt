@@ -6,9 +6,9 @@ use flat::Fragment;
 use flat::Freed;
 use flat::Reply;
 use sender_head::Head;
-ghost use Rattle.lent.specs.Says.{Init, OpenStream, SetReliability, SetLowThreshold, SetHighThreshold, Release, Write, StartLifetimes, Send, ExpirePending, ExpirePendingTail, Abandon};
-ghost use Rattle.lent.specs.Says.{Acknowledge, Pop, MarkAll, ExpiredInflight, Get, IsAbandoned, PeekPending, NextMessage, NextTsn, PendingLength, PendingBytes, InflightLength};
-ghost use Rattle.lent.specs.Says.{InflightBytes, EarliestOutstanding, PendingContainsStream, ContainsStream, BufferedAmount, LowThreshold, HighThreshold, Statistics};
+ghost use Rattle.lent.specs.Says.{Init, OpenStream, SetReliabilityParams, SetBufferedAmountLowThreshold, SetBufferedAmountHighThreshold, OnBufferReleased, Write, StartTimedMessages, SendNext, ExpirePending, ExpirePendingTail, Abandon};
+ghost use Rattle.lent.specs.Says.{MarkAsAcked, Pop, MarkAllToRetransmit, ExpiredInflight, Get, IsAbandoned, PeekPending, NextMessageId, NextTsn, PendingLen, PendingBytes, InflightLen};
+ghost use Rattle.lent.specs.Says.{InflightBytes, EarliestOutstandingTsn, PendingContainsStream, ContainsStream, BufferedAmount, BufferedAmountLowThreshold, BufferedAmountHighThreshold, Stats};
 
 // 64 streams, and 256 slots in each ring and in the flight.
 #[repr(C)]
@@ -41,46 +41,65 @@ pub extern "C" fn girdermoth_open_stream(s: &mut Sender, identifier: u16, maximu
 
 // How messages that are written from now on are delivered. Refusal: 3.
 #[no_mangle]
-pub extern "C" fn girdermoth_set_reliability(
+pub extern "C" fn girdermoth_set_reliability_params(
     s: &mut Sender,
     identifier: u16,
     unordered: bool,
     kind: u8,
     value: u32,
 ) -> Reply
-    ensures { λ r. ⌜ SetReliability identifier unordered kind value (now (s .entry)) (now (s .exit)) r ⌝ }
+    ensures { λ r. ⌜ SetReliabilityParams identifier unordered kind value (now (s .entry)) (now (s .exit)) r ⌝ }
 {
-    let r = flat_calls::set_reliability(s.head, &mut s.cells, identifier, unordered, kind, value);
+    let r = flat_calls::set_reliability_params(
+        s.head,
+        &mut s.cells,
+        identifier,
+        unordered,
+        kind,
+        value,
+    );
     s.head = r.head;
     r.reply
 }
 
 // A release that brings the buffered amount from above this to it or below is answered yes. Refusal: 3.
 #[no_mangle]
-pub extern "C" fn girdermoth_set_low_threshold(s: &mut Sender, identifier: u16, low: u64) -> Reply
-    ensures { λ r. ⌜ SetLowThreshold identifier low (now (s .entry)) (now (s .exit)) r ⌝ }
+pub extern "C" fn girdermoth_set_buffered_amount_low_threshold(
+    s: &mut Sender,
+    identifier: u16,
+    low: u64,
+) -> Reply
+    ensures { λ r. ⌜ SetBufferedAmountLowThreshold identifier low (now (s .entry)) (now (s .exit)) r ⌝ }
 {
-    let r = flat_calls::set_low_threshold(s.head, &mut s.cells, identifier, low);
+    let r = flat_calls::set_buffered_amount_low_threshold(s.head, &mut s.cells, identifier, low);
     s.head = r.head;
     r.reply
 }
 
 // A message that brings the buffered amount from below this to it or above is answered yes. Refusal: 3.
 #[no_mangle]
-pub extern "C" fn girdermoth_set_high_threshold(s: &mut Sender, identifier: u16, high: u64) -> Reply
-    ensures { λ r. ⌜ SetHighThreshold identifier high (now (s .entry)) (now (s .exit)) r ⌝ }
+pub extern "C" fn girdermoth_set_buffered_amount_high_threshold(
+    s: &mut Sender,
+    identifier: u16,
+    high: u64,
+) -> Reply
+    ensures { λ r. ⌜ SetBufferedAmountHighThreshold identifier high (now (s .entry)) (now (s .exit)) r ⌝ }
 {
-    let r = flat_calls::set_high_threshold(s.head, &mut s.cells, identifier, high);
+    let r = flat_calls::set_buffered_amount_high_threshold(s.head, &mut s.cells, identifier, high);
     s.head = r.head;
     r.reply
 }
 
 // Bytes of a stream have left the sender; `yes` where the amount fell to the low threshold. Refusal: 3.
 #[no_mangle]
-pub extern "C" fn girdermoth_release(s: &mut Sender, identifier: u16, released: i64) -> Reply
-    ensures { λ r. ⌜ Release identifier released (now (s .entry)) (now (s .exit)) r ⌝ }
+pub extern "C" fn girdermoth_on_buffer_released(
+    s: &mut Sender,
+    identifier: u16,
+    released: i64,
+) -> Reply
+    ensures { λ r. ⌜ OnBufferReleased identifier released (now (s .entry)) (now (s .exit)) r ⌝ }
 {
-    let r = flat_calls::release(s.head, &mut s.cells, identifier, released);
+    let r = flat_calls::on_buffer_released(s.head, &mut s.cells, identifier, released);
     s.head = r.head;
     r.reply
 }
@@ -105,20 +124,20 @@ pub extern "C" fn girdermoth_write(
 
 // Starts the lifetimes of the messages not yet seen. Refusal: 1.
 #[no_mangle]
-pub extern "C" fn girdermoth_start_lifetimes(s: &mut Sender, clock: u64) -> Reply
-    ensures { λ r. ⌜ StartLifetimes clock (now (s .entry)) (now (s .exit)) r ⌝ }
+pub extern "C" fn girdermoth_start_timed_messages(s: &mut Sender, clock: u64) -> Reply
+    ensures { λ r. ⌜ StartTimedMessages clock (now (s .entry)) (now (s .exit)) r ⌝ }
 {
-    let r = flat_calls::start_lifetimes(s.head, &mut s.cells, clock);
+    let r = flat_calls::start_timed_messages(s.head, &mut s.cells, clock);
     s.head = r.head;
     r.reply
 }
 
 // The next chunk goes to the flight. Refusals: 1; 10 where a chunk is pending.
 #[no_mangle]
-pub extern "C" fn girdermoth_send(s: &mut Sender, clock: u64) -> Fragment
-    ensures { λ r. ⌜ Send clock (now (s .entry)) (now (s .exit)) r ⌝ }
+pub extern "C" fn girdermoth_send_next(s: &mut Sender, clock: u64) -> Fragment
+    ensures { λ r. ⌜ SendNext clock (now (s .entry)) (now (s .exit)) r ⌝ }
 {
-    let r = flat_calls::send(s.head, &mut s.cells, clock);
+    let r = flat_calls::send_next(s.head, &mut s.cells, clock);
     s.head = r.head;
     r.reply
 }
@@ -157,10 +176,10 @@ pub extern "C" fn girdermoth_abandon(s: &mut Sender, tsn: u32) -> Freed
 
 // The entry of a TSN is acknowledged; the value is the bytes that it held.
 #[no_mangle]
-pub extern "C" fn girdermoth_acknowledge(s: &mut Sender, tsn: u32) -> Reply
-    ensures { λ r. ⌜ Acknowledge tsn (now (s .entry)) (now (s .exit)) r ⌝ }
+pub extern "C" fn girdermoth_mark_as_acked(s: &mut Sender, tsn: u32) -> Reply
+    ensures { λ r. ⌜ MarkAsAcked tsn (now (s .entry)) (now (s .exit)) r ⌝ }
 {
-    let r = flat_calls::acknowledge(s.head, &mut s.cells, tsn);
+    let r = flat_calls::mark_as_acked(s.head, &mut s.cells, tsn);
     s.head = r.head;
     r.reply
 }
@@ -177,10 +196,10 @@ pub extern "C" fn girdermoth_pop(s: &mut Sender, tsn: u32) -> Fragment
 
 // Every entry that is neither acknowledged nor abandoned is to be retransmitted.
 #[no_mangle]
-pub extern "C" fn girdermoth_mark_all(s: &mut Sender) -> Reply
-    ensures { λ r. ⌜ MarkAll (now (s .entry)) (now (s .exit)) r ⌝ }
+pub extern "C" fn girdermoth_mark_all_to_retransmit(s: &mut Sender) -> Reply
+    ensures { λ r. ⌜ MarkAllToRetransmit (now (s .entry)) (now (s .exit)) r ⌝ }
 {
-    let r = flat_calls::mark_all(s.head, &mut s.cells);
+    let r = flat_calls::mark_all_to_retransmit(s.head, &mut s.cells);
     s.head = r.head;
     r.reply
 }
@@ -223,10 +242,10 @@ pub extern "C" fn girdermoth_peek_pending(s: &Sender) -> Fragment
 
 // The number of the next message.
 #[no_mangle]
-pub extern "C" fn girdermoth_next_message(s: &Sender) -> Reply
-    ensures { λ r. ⌜ NextMessage (now (s .entry)) r ⌝ }
+pub extern "C" fn girdermoth_next_message_id(s: &Sender) -> Reply
+    ensures { λ r. ⌜ NextMessageId (now (s .entry)) r ⌝ }
 {
-    flat_calls::next_message(s.head, &s.cells)
+    flat_calls::next_message_id(s.head, &s.cells)
 }
 
 // The TSN of the next chunk that is sent.
@@ -239,10 +258,10 @@ pub extern "C" fn girdermoth_next_tsn(s: &Sender) -> Reply
 
 // How many chunks are pending.
 #[no_mangle]
-pub extern "C" fn girdermoth_pending_length(s: &Sender) -> Reply
-    ensures { λ r. ⌜ PendingLength (now (s .entry)) r ⌝ }
+pub extern "C" fn girdermoth_pending_len(s: &Sender) -> Reply
+    ensures { λ r. ⌜ PendingLen (now (s .entry)) r ⌝ }
 {
-    flat_calls::pending_length(s.head, &s.cells)
+    flat_calls::pending_len(s.head, &s.cells)
 }
 
 // How many bytes are pending.
@@ -255,10 +274,10 @@ pub extern "C" fn girdermoth_pending_bytes(s: &Sender) -> Reply
 
 // How many entries the flight has.
 #[no_mangle]
-pub extern "C" fn girdermoth_inflight_length(s: &Sender) -> Reply
-    ensures { λ r. ⌜ InflightLength (now (s .entry)) r ⌝ }
+pub extern "C" fn girdermoth_inflight_len(s: &Sender) -> Reply
+    ensures { λ r. ⌜ InflightLen (now (s .entry)) r ⌝ }
 {
-    flat_calls::inflight_length(s.head, &s.cells)
+    flat_calls::inflight_len(s.head, &s.cells)
 }
 
 // How many bytes the entries in flight hold.
@@ -271,10 +290,10 @@ pub extern "C" fn girdermoth_inflight_bytes(s: &Sender) -> Reply
 
 // The oldest TSN that is neither acknowledged nor abandoned, where `yes` is set.
 #[no_mangle]
-pub extern "C" fn girdermoth_earliest_outstanding(s: &Sender) -> Reply
-    ensures { λ r. ⌜ EarliestOutstanding (now (s .entry)) r ⌝ }
+pub extern "C" fn girdermoth_earliest_outstanding_tsn(s: &Sender) -> Reply
+    ensures { λ r. ⌜ EarliestOutstandingTsn (now (s .entry)) r ⌝ }
 {
-    flat_calls::earliest_outstanding(s.head, &s.cells)
+    flat_calls::earliest_outstanding_tsn(s.head, &s.cells)
 }
 
 // Whether a stream has chunks pending.
@@ -303,24 +322,24 @@ pub extern "C" fn girdermoth_buffered_amount(s: &Sender, identifier: u16) -> Rep
 
 // The low threshold of a stream. Refusal: 3.
 #[no_mangle]
-pub extern "C" fn girdermoth_low_threshold(s: &Sender, identifier: u16) -> Reply
-    ensures { λ r. ⌜ LowThreshold identifier (now (s .entry)) r ⌝ }
+pub extern "C" fn girdermoth_buffered_amount_low_threshold(s: &Sender, identifier: u16) -> Reply
+    ensures { λ r. ⌜ BufferedAmountLowThreshold identifier (now (s .entry)) r ⌝ }
 {
-    flat_calls::low_threshold(s.head, &s.cells, identifier)
+    flat_calls::buffered_amount_low_threshold(s.head, &s.cells, identifier)
 }
 
 // The high threshold of a stream. Refusal: 3.
 #[no_mangle]
-pub extern "C" fn girdermoth_high_threshold(s: &Sender, identifier: u16) -> Reply
-    ensures { λ r. ⌜ HighThreshold identifier (now (s .entry)) r ⌝ }
+pub extern "C" fn girdermoth_buffered_amount_high_threshold(s: &Sender, identifier: u16) -> Reply
+    ensures { λ r. ⌜ BufferedAmountHighThreshold identifier (now (s .entry)) r ⌝ }
 {
-    flat_calls::high_threshold(s.head, &s.cells, identifier)
+    flat_calls::buffered_amount_high_threshold(s.head, &s.cells, identifier)
 }
 
 // Messages and bytes sent on a stream. Refusal: 3.
 #[no_mangle]
-pub extern "C" fn girdermoth_statistics(s: &Sender, identifier: u16) -> Counts
-    ensures { λ r. ⌜ Statistics identifier (now (s .entry)) r ⌝ }
+pub extern "C" fn girdermoth_stats(s: &Sender, identifier: u16) -> Counts
+    ensures { λ r. ⌜ Stats identifier (now (s .entry)) r ⌝ }
 {
-    flat_calls::statistics(s.head, &s.cells, identifier)
+    flat_calls::stats(s.head, &s.cells, identifier)
 }

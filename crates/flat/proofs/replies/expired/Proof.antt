@@ -11,7 +11,7 @@ use Rattle.flat.proofs.replies.expired.Statement.{statement}
 use Rattle.flat.proofs.replies.expired.Tie as tie
 
 abbrev freed : (stream : ℕ) → (unordered : Bool) → (bytes : ℕ) → Freed
-freed i u b = record { number = 0; bytes = b; stream = i; refusal = 0; some = true; unordered = u }
+freed i u b = record { «message_id» = 0; bytes = b; stream = i; refusal = 0; some = true; unordered = u }
 
 -- the flag that was told is what it was
 message-told : (i : ℕ) (u : Bool) (b : ℕ) → freed i u b ≡ flatExpired (Expired.Message i u b)

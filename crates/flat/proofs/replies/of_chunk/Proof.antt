@@ -15,7 +15,7 @@ use Rattle.flat.proofs.replies.of_chunk.Tie as tie
 abbrev with-flags : (tsn : ℕ) → Chunk → (until : Bool) → (deadline : ℕ) → (sent : Bool) → (since : ℕ) → (u b e k a x : Bool) → Fragment
 with-flags t c p d q s u b e k a x =
     record {
-      number = c .message .number;
+      «message_id» = c .message .number;
       offset = c .offset;
       deadline = d;
       since = s;
