@@ -2,7 +2,7 @@
 // mean nothing, and a change leaves them as they are.
 ghost use mathlib.Core.Path.{_≡_};
 ghost use Rattle.chunk_slot.specs.Marks.{marksIn};
-ghost use Rattle.chunk_slot.specs.Remarks.{sentAgain, leftOff, oneLower, withDeadline};
+ghost use Rattle.chunk_slot.specs.Remarks.{sentAgain, leftOff, markAcked, oneLower, withDeadline};
 
 // What the marks count in their word: the stream below 2^16, then the SSN, the kind, and the flags from 2^40 on.
 pub const SSN: u64 = 65_536;
@@ -45,6 +45,15 @@ pub fn left_off(marks: u64) -> u64
     let abandoned = marks / ABANDONED % 2 * ABANDONED;
     let retransmit = marks / RETRANSMIT % 2 * RETRANSMIT;
     marks - abandoned - retransmit + ABANDONED
+}
+
+// Acknowledged, and not to be sent again.
+pub fn acknowledged(marks: u64) -> u64
+    ensures { λ r. ⌜ marksIn r ≡ markAcked (marksIn marks) ⌝ }
+{
+    let acked = marks / ACKED % 2 * ACKED;
+    let retransmit = marks / RETRANSMIT % 2 * RETRANSMIT;
+    marks - acked - retransmit + ACKED
 }
 
 // The SSN drops by 1 modulo 2^16.
