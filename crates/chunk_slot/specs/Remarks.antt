@@ -25,10 +25,6 @@ leftOff x = remarked (x .ssn) (x .acked) true false (x .timed) (x .sent) x
 abbrev pub markAcked : Marks → Marks
 markAcked x = remarked (x .ssn) true (x .abandoned) false (x .timed) (x .sent) x
 
--- sent
-abbrev pub markSent : Marks → Marks
-markSent x = remarked (x .ssn) (x .acked) (x .abandoned) (x .retransmit) (x .timed) true x
-
 -- the SSN drops by 1
 abbrev pub oneLower : Marks → Marks
 oneLower x = remarked (ssnBefore (x .ssn)) (x .acked) (x .abandoned) (x .retransmit) (x .timed) (x .sent) x
@@ -36,6 +32,10 @@ oneLower x = remarked (ssnBefore (x .ssn)) (x .acked) (x .abandoned) (x .retrans
 -- there is a deadline
 abbrev pub withDeadline : Marks → Marks
 withDeadline x = remarked (x .ssn) (x .acked) (x .abandoned) (x .retransmit) true (x .sent) x
+
+-- there is a since
+abbrev pub withSince : Marks → Marks
+withSince x = remarked (x .ssn) (x .acked) (x .abandoned) (x .retransmit) (x .timed) true x
 
 pub bit-of : (n : ℕ) → n < 2 → bitOf (eqb n 1) ≡ n
 bit-of zero h = refl
@@ -88,9 +88,9 @@ remark-acked m m' e =
     (omega (arith, bit-of (m / 17592186044416 % 2) (omega arith), bit-of (m / 70368744177664 % 2) (omega arith), bit-of (m / 140737488355328 % 2) (omega arith)))
 
 -- or a bit is taken and added
-pub remark-sent : (m m' : ℕ) → m' + m / 140737488355328 % 2 * 140737488355328 ≡ m + 140737488355328 → marksIn m' ≡ markSent (marksIn m)
+pub remark-since : (m m' : ℕ) → m' + m / 140737488355328 % 2 * 140737488355328 ≡ m + 140737488355328 → marksIn m' ≡ withSince (marksIn m)
 unfolding marksIn
-remark-sent m m' e =
+remark-since m m' e =
     remark-all m m' (m / 65536 % 65536) (bitAt 8796093022208 m) (bitAt 17592186044416 m) (bitAt 35184372088832 m) (bitAt 70368744177664 m) true (omega arith)
     (omega (arith, bit-of (m / 8796093022208 % 2) (omega arith), bit-of (m / 17592186044416 % 2) (omega arith), bit-of (m / 35184372088832 % 2) (omega arith), bit-of (m / 70368744177664 % 2) (omega arith)))
 

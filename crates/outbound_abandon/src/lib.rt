@@ -57,7 +57,8 @@ pub fn give_up(q: OutboundQueue, cells: &mut [u64], number: u64) -> GivenUp
             bytes: bytes,
         };
     };
-    let after = outbound_queue::flight_steps::file(rest, cells, terminate(chunk));
+    let words = chunk_slot::pack(terminate(chunk));
+    let after = outbound_queue::flight_steps::file(rest, cells, words);
     GivenUp {
         queue: after,
         bytes: bytes,

@@ -5,6 +5,7 @@ pub mod asks;
 pub mod cutting;
 pub mod removal;
 
+use chunk_slot::FoundWords;
 use cutting::Added;
 use model::Found;
 use ring::Ring;
@@ -16,6 +17,7 @@ ghost use Rattle.limits.specs.Flags.{isSet};
 ghost use Rattle.model.specs.State.{laneOf};
 ghost use Rattle.model.specs.Rings.{laneAhead, head};
 ghost use Rattle.model.specs.Flight.{found};
+ghost use Rattle.chunk_slot.specs.Meaning.{foundFor};
 ghost use Rattle.ring.specs.Held.{held};
 ghost use Rattle.pending_queue.specs.Queue.{underWayOf, noPending, pendingIn, Counted};
 ghost use Rattle.pending_queue.specs.Adding.{withAdded};
@@ -34,7 +36,7 @@ pub struct PendingQueue {
 
 pub struct Popped {
     pub queue: PendingQueue,
-    pub front: Found,
+    pub front: FoundWords,
 }
 
 // Nothing is pending, whatever the cells are.
@@ -63,14 +65,26 @@ fn from_unordered(queue: PendingQueue, unordered: &[u64]) -> bool
     0 < ring::count(queue.unordered, unordered)
 }
 
-// The chunk that is sent next: of the message under way, else the unordered front, else the ordered one.
+// The words of the chunk that is sent next: of the message under way, else the unordered front, else the ordered one.
+fn next(queue: PendingQueue, unordered: &[u64], ordered: &[u64]) -> FoundWords
+    ensures { λ r. ⌜ foundFor r ≡ found (head (pendingIn queue (now (unordered .entry)) (now (ordered .entry)))) ⌝ }
+{
+    if from_unordered(queue, unordered) {
+        return ring::front(queue.unordered, unordered);
+    }
+    ring::front(queue.ordered, ordered)
+}
+
+// That chunk.
 pub fn peek(queue: PendingQueue, unordered: &[u64], ordered: &[u64]) -> Found
     ensures { λ r. ⌜ r ≡ found (head (pendingIn queue (now (unordered .entry)) (now (ordered .entry)))) ⌝ }
 {
-    if from_unordered(queue, unordered) {
-        return ring::peek(queue.unordered, unordered);
-    }
-    ring::peek(queue.ordered, ordered)
+    let front = next(queue, unordered, ordered);
+    let FoundWords::One(words) = front else {
+        return Found::Nothing;
+    };
+    let chunk = chunk_slot::unpack(words);
+    Found::One(chunk)
 }
 
 fn flag(b: bool) -> u8
@@ -82,19 +96,21 @@ fn flag(b: bool) -> u8
     0
 }
 
-// Takes that chunk. One that does not end its message puts this under way.
+// Takes that chunk, as its words. One that does not end its message puts this under way.
 pub fn pop(queue: PendingQueue, unordered: &[u64], ordered: &[u64]) -> Popped
-    ensures { λ r. ⌜ Pops queue (now (unordered .entry)) (now (ordered .entry)) (r .queue) (r .front) ⌝ }
+    ensures { λ r. ⌜ Pops queue (now (unordered .entry)) (now (ordered .entry)) (r .queue) (foundFor (r .front)) ⌝ }
 {
-    let front = peek(queue, unordered, ordered);
-    let Found::One(chunk) = front else {
+    let front = next(queue, unordered, ordered);
+    let FoundWords::One(words) = front else {
         return Popped {
             queue: queue,
-            front: Found::Nothing,
+            front: FoundWords::Nothing,
         };
     };
-    let bytes = std::num::wrapping_sub_u64(queue.bytes, chunk.length as u64);
-    let selected = flag(!chunk.ending);
+    let length = chunk_slot::length_of(words);
+    let ending = chunk_slot::is_ending(words);
+    let bytes = std::num::wrapping_sub_u64(queue.bytes, length as u64);
+    let selected = flag(!ending);
     let unordered_ring = queue.unordered;
     let ordered_ring = queue.ordered;
     if from_unordered(queue, unordered) {

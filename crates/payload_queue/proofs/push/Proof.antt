@@ -1,9 +1,11 @@
 -- The ring is longer by the chunk, and the counter by its bytes; or nothing changes.
 use mathlib.Core.Path.{_∙_, sym, ap}
+use Prim.Native.Nat.{ℕ, _+_, _%_, _^_}
 use denote.Ref.{now}
 use borrow.Author.Tests.{not-true, not-false}
 use Rattle.model.specs.Rings.{bytes}
 use Rattle.cells.specs.Slots.{roomOf}
+use Rattle.chunk_slot.specs.Meaning.{chunkFor}
 use Rattle.ring.specs.Held.{held}
 use Rattle.payload_queue.specs.Sums.{bytes-pushed, bytes-stay, counted-more}
 use Rattle.payload_queue.specs.Cases.{entries-are}
@@ -24,8 +26,11 @@ returns c =
     let ws = now (a .cells) in
     let full = sym (p .ensures .1) ∙ not-true _ (c .if1 .taken) in (
       entries-are (a .q .oldest) (p .ensures .0),
-      λ h. h ∙ sym (ap bytes (p .ensures .0) ∙ bytes-stay (roomOf ws) (held (a .q .ring) ws) (a .chunk) full),
+      λ h. h ∙ sym (ap bytes (p .ensures .0) ∙ bytes-stay (roomOf ws) (held (a .q .ring) ws) (chunkFor (a .words)) full),
     )
+
+length-of-requires : tie.Need-length-of-requires
+length-of-requires c κs = search needs
 
 cast-wrapping-add-u64 : tie.Need-cast-wrapping-add-u64
 cast-wrapping-add-u64 c = search needs
@@ -44,7 +49,7 @@ returns-2 c =
     let room = sym (p .ensures .1) ∙ not-false _ (c .before .before .if1 .left) in
     let s = c .wrapping-add-u64 in (
       entries-are (a .q .oldest) (p .ensures .0),
-      counted-more (a .q) ws (p .result .ring) (p .last .1 .0) (a .chunk .length) (s .result) (ap bytes (p .ensures .0) ∙ bytes-pushed (roomOf ws) (held (a .q .ring) ws) (a .chunk) room) (s .ensures),
+      counted-more (a .q) ws (p .result .ring) (p .last .1 .0) (chunkFor (a .words) .length) (s .result) (ap bytes (p .ensures .0) ∙ bytes-pushed (roomOf ws) (held (a .q .ring) ws) (chunkFor (a .words)) room) (s .ensures ∙ ap (λ (n : ℕ). (a .q .bytes + n) % 2 ^ 64) (c .before .length-of .ensures)),
     )
 
 pub push-spec : {M : Type 1} → statement M
@@ -54,6 +59,7 @@ push-spec =
     push-requires
     same-length
     returns
+    length-of-requires
     cast-wrapping-add-u64
     wrapping-add-u64-requires
     same-length-2
