@@ -6,18 +6,20 @@ pub mod cutting;
 pub mod removal;
 
 use chunk_slot::FoundWords;
+use chunk_slot::Words;
 use cutting::Added;
 use model::Found;
 use ring::Ring;
 ghost use mathlib.Core.Path.{_≡_};
+ghost use mathlib.Core.Bool.{not};
 ghost use mathlib.Core.List.{List};
-ghost use Prim.Native.Nat.{ℕ, min};
+ghost use Prim.Native.Nat.{ℕ, _+_, _%_, _^_, min};
 ghost use Rattle.limits.specs.Limits.{clockMax};
 ghost use Rattle.limits.specs.Flags.{isSet};
 ghost use Rattle.model.specs.State.{laneOf};
 ghost use Rattle.model.specs.Rings.{laneAhead, head};
 ghost use Rattle.model.specs.Flight.{found};
-ghost use Rattle.chunk_slot.specs.Meaning.{foundFor};
+ghost use Rattle.chunk_slot.specs.Meaning.{chunkFor, foundFor};
 ghost use Rattle.ring.specs.Held.{held};
 ghost use Rattle.pending_queue.specs.Queue.{underWayOf, noPending, pendingIn, Counted};
 ghost use Rattle.pending_queue.specs.Adding.{withAdded};
@@ -65,26 +67,14 @@ fn from_unordered(queue: PendingQueue, unordered: &[u64]) -> bool
     0 < ring::count(queue.unordered, unordered)
 }
 
-// The words of the chunk that is sent next: of the message under way, else the unordered front, else the ordered one.
-fn next(queue: PendingQueue, unordered: &[u64], ordered: &[u64]) -> FoundWords
-    ensures { λ r. ⌜ foundFor r ≡ found (head (pendingIn queue (now (unordered .entry)) (now (ordered .entry)))) ⌝ }
-{
-    if from_unordered(queue, unordered) {
-        return ring::front(queue.unordered, unordered);
-    }
-    ring::front(queue.ordered, ordered)
-}
-
-// That chunk.
+// The chunk that is sent next: of the message under way, else the unordered front, else the ordered one.
 pub fn peek(queue: PendingQueue, unordered: &[u64], ordered: &[u64]) -> Found
     ensures { λ r. ⌜ r ≡ found (head (pendingIn queue (now (unordered .entry)) (now (ordered .entry)))) ⌝ }
 {
-    let front = next(queue, unordered, ordered);
-    let FoundWords::One(words) = front else {
-        return Found::Nothing;
-    };
-    let chunk = chunk_slot::unpack(words);
-    Found::One(chunk)
+    if from_unordered(queue, unordered) {
+        return ring::peek(queue.unordered, unordered);
+    }
+    ring::peek(queue.ordered, ordered)
 }
 
 fn flag(b: bool) -> u8
@@ -96,46 +86,70 @@ fn flag(b: bool) -> u8
     0
 }
 
+// What is kept behind a chunk: the bytes without its own, and whether its message is under way.
+struct Kept {
+    bytes: u64,
+    selected: u8,
+}
+
+fn behind(bytes: u64, words: Words) -> Kept
+    ensures { λ r. ⌜ ((r .bytes + chunkFor words .length) % 2 ^ 64 ≡ bytes) × (isSet (r .selected) ≡ not (chunkFor words .ending)) ⌝ }
+{
+    let length = chunk_slot::length_of(words);
+    let ending = chunk_slot::is_ending(words);
+    let left = std::num::wrapping_sub_u64(bytes, length as u64);
+    let selected = flag(!ending);
+    Kept {
+        bytes: left,
+        selected: selected,
+    }
+}
+
 // Takes that chunk, as its words. One that does not end its message puts this under way.
 pub fn pop(queue: PendingQueue, unordered: &[u64], ordered: &[u64]) -> Popped
     ensures { λ r. ⌜ Pops queue (now (unordered .entry)) (now (ordered .entry)) (r .queue) (foundFor (r .front)) ⌝ }
 {
-    let front = next(queue, unordered, ordered);
-    let FoundWords::One(words) = front else {
-        return Popped {
-            queue: queue,
-            front: FoundWords::Nothing,
-        };
-    };
-    let length = chunk_slot::length_of(words);
-    let ending = chunk_slot::is_ending(words);
-    let bytes = std::num::wrapping_sub_u64(queue.bytes, length as u64);
-    let selected = flag(!ending);
     let unordered_ring = queue.unordered;
     let ordered_ring = queue.ordered;
     if from_unordered(queue, unordered) {
+        let first = ring::front(unordered_ring, unordered);
+        let FoundWords::One(words) = first else {
+            return Popped {
+                queue: queue,
+                front: FoundWords::Nothing,
+            };
+        };
+        let kept = behind(queue.bytes, words);
         let rest = ring::shorter(unordered_ring, unordered);
         return Popped {
             queue: PendingQueue {
                 unordered: rest,
                 ordered: ordered_ring,
-                bytes: bytes,
-                selected: selected,
+                bytes: kept.bytes,
+                selected: kept.selected,
                 unordered_is_selected: 1,
             },
-            front: front,
+            front: first,
         };
     }
+    let first = ring::front(ordered_ring, ordered);
+    let FoundWords::One(words) = first else {
+        return Popped {
+            queue: queue,
+            front: FoundWords::Nothing,
+        };
+    };
+    let kept = behind(queue.bytes, words);
     let rest = ring::shorter(ordered_ring, ordered);
     Popped {
         queue: PendingQueue {
             unordered: unordered_ring,
             ordered: rest,
-            bytes: bytes,
-            selected: selected,
+            bytes: kept.bytes,
+            selected: kept.selected,
             unordered_is_selected: 0,
         },
-        front: front,
+        front: first,
     }
 }
 
