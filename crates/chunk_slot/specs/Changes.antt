@@ -13,12 +13,12 @@ use Rattle.model.specs.declared.Chunk.{Chunk}
 use Rattle.model.specs.Lists.{if_then_else_, adjust}
 use Rattle.model.specs.State.{isOf}
 use Rattle.model.specs.Rings.{withMessage, renewed, hasLifetime, started, ssnBefore, lowered, marked, givenUp}
-use Rattle.model.specs.Flight.{toRetransmit}
+use Rattle.model.specs.Flight.{acknowledged, toRetransmit}
 use Rattle.rows.specs.Adjusts.{adjust-set, adjust-out}
 use Rattle.cells.specs.Slots.{roomOf, wordsOf, slots-past, slots-get, word-at, length-words, eight, Wrote, wrote-none, wrote-more}
 use Rattle.cells.specs.Words.{lowOf, highOf}
 use Rattle.chunk_slot.specs.Marks.{Marks, marksIn}
-use Rattle.chunk_slot.specs.Remarks.{sentAgain, leftOff, oneLower, withDeadline}
+use Rattle.chunk_slot.specs.Remarks.{sentAgain, leftOff, markAcked, oneLower, withDeadline}
 use Rattle.chunk_slot.specs.Chunks.{chunkFrom, chunkIn, chunks, blankChunk, chunk-past, chunk-at}
 
 -- ---- what the model's changes come to
@@ -63,17 +63,26 @@ module _ (w : List ℕ) (h : length w ≡ 8) where
   mark-in m e =
       ap (λ (r : List ℕ). chunkIn (set r 6 m)) (eight w h) ∙ ap (among (getD w 1 0) (lowOf (getD w 5 0)) (highOf (getD w 5 0))) e
 
-  give-in : (n m : ℕ) → getD w 0 0 ≡ n → marksIn m ≡ leftOff (marksIn (getD w 6 0))
-      → chunkIn (set (set w 5 (getD w 5 0 - lowOf (getD w 5 0))) 6 m) ≡ givenUp n (chunkIn w)
-  unfolding chunkFrom
-  give-in n m q e =
+  -- the length's half goes
+  empty-in : (m : ℕ) → chunkIn (set (set w 5 (getD w 5 0 - lowOf (getD w 5 0))) 6 m) ≡ among (getD w 1 0) 0 (highOf (getD w 5 0)) (marksIn m)
+  empty-in m =
       let z = getD w 5 0 in
       let low : lowOf (z - lowOf z) ≡ 0 = omega arith in
       let high : highOf (z - lowOf z) ≡ highOf z = omega arith in
       ap (λ (r : List ℕ). chunkIn (set (set r 5 (z - lowOf z)) 6 m)) (eight w h)
       ∙ ap (λ (l : ℕ). among (getD w 1 0) l (highOf (z - lowOf z)) (marksIn m)) low
       ∙ ap (λ (s : ℕ). among (getD w 1 0) 0 s (marksIn m)) high
-      ∙ ap (among (getD w 1 0) 0 (highOf z)) e
+
+  ack-in : (m : ℕ) → marksIn m ≡ markAcked (marksIn (getD w 6 0)) → chunkIn (set (set w 5 (getD w 5 0 - lowOf (getD w 5 0))) 6 m) ≡ acknowledged (chunkIn w)
+  unfolding chunkFrom
+  ack-in m e = empty-in m ∙ ap (among (getD w 1 0) 0 (highOf (getD w 5 0))) e
+
+  give-in : (n m : ℕ) → getD w 0 0 ≡ n → marksIn m ≡ leftOff (marksIn (getD w 6 0))
+      → chunkIn (set (set w 5 (getD w 5 0 - lowOf (getD w 5 0))) 6 m) ≡ givenUp n (chunkIn w)
+  unfolding chunkFrom
+  give-in n m q e =
+      empty-in m
+      ∙ ap (among (getD w 1 0) 0 (highOf (getD w 5 0))) e
       ∙ sym (ap (λ (b : Bool). if b then marked 0 (chunkIn w .acked) true false (chunkIn w) else chunkIn w) (eq-eqb (getD w 0 0) n q))
 
   lower-in : (id m : ℕ) → marksIn (getD w 6 0) .stream ≡ id → marksIn m ≡ oneLower (marksIn (getD w 6 0)) → chunkIn (set w 6 m) ≡ lowered id (chunkIn w)
@@ -163,6 +172,16 @@ module _ (i : ℕ) (ws : List ℕ) (h : i < roomOf ws) where
       changed (givenUp n) p
       (ap (λ (k : ℕ). chunkIn (set (set (wordsOf i ws) 5 (k - lowOf k)) 6 m)) (word 5 (omega arith))
       ∙ give-in (wordsOf i ws) long n m (sym (word 0 (omega arith)) ∙ first ∙ q) (e ∙ ap (λ (k : ℕ). leftOff (marksIn k)) (word 6 (omega arith))))
+
+  pub ack-slot : (m : ℕ) → marksIn m ≡ markAcked (marksIn (getD ws (i * 8 + 6) 0))
+      → chunks (set (set ws (i * 8 + 5) (getD ws (i * 8 + 5) 0 - lowOf (getD ws (i * 8 + 5) 0))) (i * 8 + 6) m) ≡ adjust acknowledged i (chunks ws)
+  ack-slot m e =
+      let z = getD ws (i * 8 + 5) 0 in
+      let y = z - lowOf z in
+      let p = wrote-more 6 (i * 8 + 6) m (omega arith) refl (wrote-more 5 (i * 8 + 5) y (omega arith) refl (wrote-none h)) in
+      changed acknowledged p
+      (ap (λ (k : ℕ). chunkIn (set (set (wordsOf i ws) 5 (k - lowOf k)) 6 m)) (word 5 (omega arith))
+      ∙ ack-in (wordsOf i ws) long m (e ∙ ap (λ (k : ℕ). markAcked (marksIn k)) (word 6 (omega arith))))
 
   pub start-slot : (time k m : ℕ) → k ≤ getD ws (i * 8) 0 → getD ws (i * 8 + 6) 0 / 4294967296 % 256 ≡ 2 → (lowOf (getD ws (i * 8 + 4) 0) ≡ 50 → ⊥)
       → marksIn m ≡ withDeadline (marksIn (getD ws (i * 8 + 6) 0))

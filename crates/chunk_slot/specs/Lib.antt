@@ -3,3 +3,4 @@ pub mod Marks
 pub mod Remarks
 pub mod Chunks
 pub mod Changes
+pub mod Meaning

@@ -2,7 +2,7 @@
 // mean nothing, and a change leaves them as they are.
 ghost use mathlib.Core.Path.{_≡_};
 ghost use Rattle.chunk_slot.specs.Marks.{marksIn};
-ghost use Rattle.chunk_slot.specs.Remarks.{sentAgain, leftOff, oneLower, withDeadline};
+ghost use Rattle.chunk_slot.specs.Remarks.{sentAgain, leftOff, markAcked, oneLower, withDeadline, withSince};
 
 // What the marks count in their word: the stream below 2^16, then the SSN, the kind, and the flags from 2^40 on.
 pub const SSN: u64 = 65_536;
@@ -47,6 +47,15 @@ pub fn left_off(marks: u64) -> u64
     marks - abandoned - retransmit + ABANDONED
 }
 
+// Acknowledged, and not to be sent again.
+pub fn acknowledged(marks: u64) -> u64
+    ensures { λ r. ⌜ marksIn r ≡ markAcked (marksIn marks) ⌝ }
+{
+    let acked = marks / ACKED % 2 * ACKED;
+    let retransmit = marks / RETRANSMIT % 2 * RETRANSMIT;
+    marks - acked - retransmit + ACKED
+}
+
 // The SSN drops by 1 modulo 2^16.
 pub fn one_lower(marks: u64) -> u64
     ensures { λ r. ⌜ marksIn r ≡ oneLower (marksIn marks) ⌝ }
@@ -61,4 +70,11 @@ pub fn with_deadline(marks: u64) -> u64
     ensures { λ r. ⌜ marksIn r ≡ withDeadline (marksIn marks) ⌝ }
 {
     marks - marks / TIMED % 2 * TIMED + TIMED
+}
+
+// There is a since.
+pub fn with_since(marks: u64) -> u64
+    ensures { λ r. ⌜ marksIn r ≡ withSince (marksIn marks) ⌝ }
+{
+    marks - marks / SENT % 2 * SENT + SENT
 }

@@ -9,7 +9,7 @@ ghost use lib.ListN.{getD};
 ghost use Rattle.limits.specs.Limits.{clockMax};
 ghost use Rattle.model.specs.Lists.{adjust};
 ghost use Rattle.model.specs.Rings.{givenUp, lowered, started};
-ghost use Rattle.model.specs.Flight.{toRetransmit};
+ghost use Rattle.model.specs.Flight.{acknowledged, toRetransmit};
 ghost use Rattle.chunk_slot.specs.Chunks.{chunks, blankChunk};
 ghost use Rattle.chunk_slot.specs.Changes.{heldOf};
 
@@ -47,6 +47,22 @@ pub fn mark_at(cells: &mut [u64], i: usize)
     let at = i * 8 + 6;
     let marks = super::marks::sent_again(cells[at]);
     cells[at] = marks;
+}
+
+// Slot i is acknowledged, and holds nothing from then on; the answer is the bytes that it held.
+pub fn acknowledge_at(cells: &mut [u64], i: usize) -> u32
+    ensures { λ r. ⌜ (r ≡ getD (chunks (now (cells .entry))) i blankChunk .length) × (chunks (now (cells .exit)) ≡ adjust acknowledged i (chunks (now (cells .entry)))) ⌝ }
+{
+    if cells::room(cells) <= i {
+        return 0;
+    }
+    let at = i * 8;
+    let sizes = cells[at + 5];
+    let length = sizes % HIGH;
+    let marks = super::marks::acknowledged(cells[at + 6]);
+    cells[at + 5] = sizes - length;
+    cells[at + 6] = marks;
+    length as u32
 }
 
 // Slot i is given up, if it is of the message; the answer is the bytes that it held of it.

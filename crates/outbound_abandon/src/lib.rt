@@ -58,7 +58,8 @@ pub fn give_up(q: OutboundQueue, cells: &mut [u64], near: usize, number: u64) ->
             bytes: bytes,
         };
     };
-    let after = outbound_queue::flight_steps::file(rest, cells, terminate(chunk));
+    let words = chunk_slot::pack(terminate(chunk));
+    let after = outbound_queue::flight_steps::file(rest, cells, words);
     GivenUp {
         queue: after,
         bytes: bytes,

@@ -1,10 +1,11 @@
 // The steps that the calls of the whole queue take in the flight. The rings of what is pending stay as they are.
 use super::OutboundQueue;
-use model::Chunk;
+use chunk_slot::Words;
 ghost use mathlib.Core.Path.{_≡_};
 ghost use Prim.Native.Nat.{suc};
 ghost use lib.ListN.{length};
 ghost use lib.Dec.{leb};
+ghost use Rattle.chunk_slot.specs.Meaning.{chunkFor};
 ghost use Rattle.outbound_queue.specs.Outbound.{ringRoom};
 ghost use Rattle.outbound_queue.specs.Calls.{flyingIn, Files, Frees};
 
@@ -23,12 +24,12 @@ pub fn is_full(q: OutboundQueue, cells: &[u64]) -> bool
     room <= payload_queue::asks::len(q.inflight, &cells[k + k..k + k + k]) + 1
 }
 
-// A chunk goes behind the entries, where there is room.
-pub fn file(q: OutboundQueue, cells: &mut [u64], chunk: Chunk) -> OutboundQueue
-    ensures { λ r. ⌜ Files chunk q (now (cells .entry)) r (now (cells .exit)) ⌝ }
+// The chunk of the words goes behind the entries, where there is room.
+pub fn file(q: OutboundQueue, cells: &mut [u64], words: Words) -> OutboundQueue
+    ensures { λ r. ⌜ Files (chunkFor words) q (now (cells .entry)) r (now (cells .exit)) ⌝ }
 {
     let k = cells.len() / 24 * 8;
-    let longer = payload_queue::push(q.inflight, &mut cells[k + k..k + k + k], chunk);
+    let longer = payload_queue::push(q.inflight, &mut cells[k + k..k + k + k], words);
     let pending = q.pending;
     OutboundQueue {
         pending: pending,

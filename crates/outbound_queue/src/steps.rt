@@ -2,16 +2,18 @@
 // other cells as they are; its contract says what has become of the model's sender, whatever the streams are. Those in the flight stand in
 // `flight_steps`.
 use super::OutboundQueue;
+use chunk_slot::FoundWords;
 use model::Found;
 use model::Message;
 ghost use Prim.Native.Nat.{min};
 ghost use Rattle.limits.specs.Limits.{clockMax};
+ghost use Rattle.chunk_slot.specs.Meaning.{foundFor};
 ghost use Rattle.outbound_queue.specs.Steps.{endsStarted};
 ghost use Rattle.outbound_queue.specs.Calls.{Becomes, Takes, Removes, gapClosed, Joins};
 
 pub struct Taken {
     pub queue: OutboundQueue,
-    pub front: Found,
+    pub front: FoundWords,
 }
 
 // `bytes` is what the removed chunks held, and `last` the last of them.
@@ -46,9 +48,9 @@ pub fn start_rings(q: OutboundQueue, cells: &mut [u64], clock: u64) -> OutboundQ
     }
 }
 
-// Takes the chunk that is sent next.
+// Takes the chunk that is sent next, as its words.
 pub fn take_head(q: OutboundQueue, cells: &[u64]) -> Taken
-    ensures { λ r. ⌜ Takes q (now (cells .entry)) (r .queue) (r .front) ⌝ }
+    ensures { λ r. ⌜ Takes q (now (cells .entry)) (r .queue) (foundFor (r .front)) ⌝ }
 {
     let k = cells.len() / 24 * 8;
     let rest = pending_queue::pop(q.pending, &cells[0..k], &cells[k..k + k]);

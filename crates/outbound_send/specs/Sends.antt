@@ -168,13 +168,14 @@ module _ (room : Room) (now : ℕ) (s : Sender) where
             }) (lt-ltb (length (s .flight .entries)) (room .flight) (omega arith))
             ∙ sym (ap (λ (b : Bool). if b then same (Sent.Refused flightFull) s else record { after = taken l now d k begun; says = Sent.Yielded (nextTsn s) (sentAt now d) }) n)
 
-        -- `z` has the chunk filed
+        -- `z` has the chunk filed, and `told` is that chunk
         pub send-one : (c : Chunk) → found (head (x .pending)) ≡ Found.One c → blocked (head (s .pending)) n (s .flight .entries) ≡ false
-            → {z : Sender} {i m : ℕ} {sent : Chunk} → sent ≡ sentAt now c → m ≡ n → z ≡ withFlight (filed m sent (y .flight)) y → i ≡ nextTsn s
-            → record { after = z; says = Sent.Yielded i sent } ≡ leanSend room now s
-        send-one c q w {i = i} {sent} v u f k =
+            → {z : Sender} {i m : ℕ} {sent told : Chunk} → told ≡ sent → sent ≡ sentAt now c → m ≡ n → z ≡ withFlight (filed m sent (y .flight)) y → i ≡ nextTsn s
+            → record { after = z; says = Sent.Yielded i told } ≡ leanSend room now s
+        send-one c q w {z} {i} {m} {sent} {told} p v u f k =
             let g : y ≡ withPending (popped (begun .pending)) begun = t ∙ ap (λ (o : Sender). withPending (popped (o .pending)) o) e in
-            ap (λ (o : Sender). record { after = o; says = Sent.Yielded i sent })
+            ap (λ (d : Chunk). record { after = z; says = Sent.Yielded i d }) p
+            ∙ ap (λ (o : Sender). record { after = o; says = Sent.Yielded i sent })
             (f ∙ ap (λ (j : ℕ). withFlight (filed j sent (y .flight)) y) (u ∙ sym r) ∙ ap (λ (o : Sender). withFlight (filed (room .flight) sent (o .flight)) o) g)
             ∙ ap₂ (λ (j : ℕ) (d : Chunk). record { after = withFlight (filed (room .flight) d (s .flight)) (withPending (popped (begun .pending)) begun); says = Sent.Yielded j d }) k v
             ∙ opened (one-by (headLane (begun .pending)) (ahead (begun .pending)) c (sym (ap (λ (o : Sender). found (head (o .pending))) e) ∙ q) (still-blocked ∙ w))

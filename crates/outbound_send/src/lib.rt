@@ -3,14 +3,13 @@
 // a `Good` one this is 01's).
 pub mod push;
 
-use limits::Moment;
-use model::Chunk;
+use chunk_slot::FoundWords;
 use model::Done;
 use model::Found;
 use model::Sent;
 use outbound_queue::OutboundQueue;
 ghost use mathlib.Core.Path.{_≡_};
-ghost use Rattle.model.specs.Rings.{head, startLifetimes, sentAt, send};
+ghost use Rattle.model.specs.Rings.{head, startLifetimes, send};
 ghost use Rattle.model.specs.Told.{toldDone, toldSent};
 ghost use Rattle.outbound_queue.specs.Outbound.{ringRoom};
 ghost use Rattle.outbound_send.specs.Lean.{leanStart, leanSend};
@@ -41,25 +40,6 @@ pub fn start_timed_messages(q: OutboundQueue, cells: &mut [u64], clock: u64) -> 
     Started {
         queue: after,
         answer: Done::Done,
-    }
-}
-
-// A chunk as it is filed: sent now, for the first time.
-fn stamp(chunk: Chunk, clock: u64) -> Chunk
-    ensures { λ r. ⌜ r ≡ sentAt clock chunk ⌝ }
-{
-    let message = chunk.message;
-    Chunk {
-        message: message,
-        beginning: chunk.beginning,
-        ending: chunk.ending,
-        offset: chunk.offset,
-        length: chunk.length,
-        since: Moment::At(clock),
-        nsent: 1,
-        acked: chunk.acked,
-        abandoned: chunk.abandoned,
-        retransmit: chunk.retransmit,
     }
 }
 
@@ -98,14 +78,15 @@ pub fn send_next(q: OutboundQueue, cells: &mut [u64], clock: u64) -> Sending
     let taken = outbound_queue::steps::take_head(started, cells);
     let rest = taken.queue;
     let front = taken.front;
-    let Found::One(chunk) = front else {
+    let FoundWords::One(words) = front else {
         return Sending {
             queue: rest,
             answer: Sent::Nothing,
         };
     };
-    let sent = stamp(chunk, clock);
-    let after = outbound_queue::flight_steps::file(rest, cells, sent);
+    let stamped = chunk_slot::stamped(words, clock);
+    let after = outbound_queue::flight_steps::file(rest, cells, stamped);
+    let sent = chunk_slot::unpack(stamped);
     Sending {
         queue: after,
         answer: Sent::Yielded(tsn, sent),

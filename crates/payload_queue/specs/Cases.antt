@@ -4,17 +4,16 @@ use mathlib.Core.Bool.{Bool, true, false}
 use mathlib.Core.List.{List, [], _∷_}
 use Prim.Native.Nat.{ℕ, zero, suc, _+_, _%_}
 use native.Mathlib.Omega.{arith}
-use lib.ListN.{getD, getElem?, set, drop}
+use lib.ListN.{getD, getElem?, drop}
 use borrow.Author.Tests.{eq-eqb, ne-eqb}
 use Rattle.limits.specs.Limits.{tsns}
 use Rattle.limits.specs.Moments.{passed}
 use Rattle.model.specs.declared.Chunk.{Chunk}
 use Rattle.model.specs.declared.Found.{Found}
-use Rattle.model.specs.Lists.{if_then_else_, first, adjust}
+use Rattle.model.specs.Lists.{if_then_else_, first}
 use Rattle.model.specs.State.{Flight}
 use Rattle.model.specs.Rings.{bytes}
-use Rattle.model.specs.Flight.{found, acknowledged}
-use Rattle.rows.specs.Adjusts.{adjust-set}
+use Rattle.model.specs.Flight.{found}
 use Rattle.chunk_slot.specs.Chunks.{blankChunk}
 use Rattle.ring.specs.Held.{first-none}
 use Rattle.payload_queue.specs.declared.Pending.{Pending}
@@ -24,12 +23,9 @@ use Rattle.payload_queue.specs.Queue.{heldIn, Pop, poppedOf, isAwaited, 
 pub entries-are : (o : ℕ) {l m : List Chunk} → l ≡ m → _≡_ {A = Flight} (record { oldest = o; entries = l }) (record { oldest = o; entries = m })
 entries-are o e = ap (λ (l : List Chunk). record { oldest = o; entries = l }) e
 
--- ---- acknowledging: the entry is read, marked and put back
+-- ---- acknowledging
 
-pub acked-put : (l : List Chunk) (i k : ℕ) {x y : Chunk} {m : List Chunk} → i ≡ k → x ≡ getD l i blankChunk → y ≡ acknowledged x → m ≡ set l i y → m ≡ adjust acknowledged k l
-acked-put l i k {x} {y} {m} e a b s =
-    s ∙ ap (set l i) (b ∙ ap acknowledged a) ∙ sym (adjust-set acknowledged i l blankChunk) ∙ ap (λ (j : ℕ). adjust acknowledged j l) e
-
+-- what a marked entry held
 pub held-at : (i : ℕ) (l : List Chunk) → getD l i blankChunk .length ≡ heldIn (getElem? l i)
 held-at zero [] = refl
 held-at (suc i) [] = refl

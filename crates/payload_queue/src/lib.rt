@@ -5,6 +5,7 @@ pub mod asks;
 pub mod marks;
 pub mod overdue;
 
+use chunk_slot::Words;
 use limits::Moment;
 use model::Chunk;
 use model::Found;
@@ -16,6 +17,7 @@ ghost use Rattle.limits.specs.Limits.{tsns};
 ghost use Rattle.model.specs.State.{inFlight};
 ghost use Rattle.model.specs.Flight.{found};
 ghost use Rattle.cells.specs.Slots.{roomOf};
+ghost use Rattle.chunk_slot.specs.Meaning.{chunkFor};
 ghost use Rattle.payload_queue.specs.Queue.{Becomes, Pops, flightOf, Counted, filed, dueOf};
 
 // The bound of a flight in which nothing can expire.
@@ -76,11 +78,11 @@ pub fn lowered(due: u64, chunk: Chunk) -> u64
     if own < due { own } else { due }
 }
 
-// Files a chunk behind the others, where there is room: it takes the next TSN.
-pub fn push(q: PayloadQueue, cells: &mut [u64], chunk: Chunk) -> PayloadQueue
-    ensures { λ r. ⌜ Becomes (filed (roomOf (now (cells .entry))) chunk) q (now (cells .entry)) r (now (cells .exit)) ⌝ }
+// Files the chunk of the words behind the others, where there is room: it takes the next TSN.
+pub fn push(q: PayloadQueue, cells: &mut [u64], words: Words) -> PayloadQueue
+    ensures { λ r. ⌜ Becomes (filed (roomOf (now (cells .entry))) (chunkFor words)) q (now (cells .entry)) r (now (cells .exit)) ⌝ }
 {
-    let longer = ring::push(q.ring, cells, chunk);
+    let longer = ring::push(q.ring, cells, words);
     let ring = longer.ring;
     if !longer.done {
         return PayloadQueue {
@@ -90,7 +92,9 @@ pub fn push(q: PayloadQueue, cells: &mut [u64], chunk: Chunk) -> PayloadQueue
             due: q.due,
         };
     }
-    let sum = std::num::wrapping_add_u64(q.bytes, chunk.length as u64);
+    let length = chunk_slot::length_of(words);
+    let sum = std::num::wrapping_add_u64(q.bytes, length as u64);
+    let chunk = chunk_slot::unpack(words);
     let due = lowered(q.due, chunk);
     PayloadQueue {
         ring: ring,

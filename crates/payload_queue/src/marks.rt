@@ -1,12 +1,11 @@
 // Entries of the flight are marked where they stand: acknowledged, given up, to be retransmitted. The counter of bytes stays the sum, and the bound of
 // the deadlines is still one.
 use super::PayloadQueue;
-use model::Chunk;
 use ring::Ring;
 ghost use mathlib.Core.Path.{_≡_};
 ghost use mathlib.Core.List.{map};
 ghost use Rattle.model.specs.State.{inFlight};
-ghost use Rattle.model.specs.Flight.{acknowledged, toRetransmit};
+ghost use Rattle.model.specs.Flight.{toRetransmit};
 ghost use Rattle.ring.specs.Held.{held};
 ghost use Rattle.payload_queue.specs.Queue.{Becomes, Tells, changed, acked, heldIn};
 ghost use Rattle.payload_queue.specs.OneRun.{firstOf, heldFrom, givenUpFrom, heldNear, givenUpNear};
@@ -23,26 +22,14 @@ pub struct Freed {
     pub bytes: u64,
 }
 
-fn acknowledge(chunk: Chunk) -> Chunk
-    ensures { λ r. ⌜ r ≡ acknowledged chunk ⌝ }
-{
-    let mut marked = chunk;
-    marked.length = 0;
-    marked.acked = true;
-    marked.retransmit = false;
-    marked
-}
-
-// The entry of an unknown TSN is blank, holds nothing, and is put nowhere.
+// The entry of an unknown TSN holds nothing, and is marked nowhere.
 pub fn mark_as_acked(q: PayloadQueue, cells: &mut [u64], tsn: u32) -> Acked
     ensures { λ r. ⌜ Tells (acked tsn) (λ f. heldIn (inFlight tsn f)) q (now (cells .entry)) (r .queue) (now (cells .exit)) (r .bytes) ⌝ }
 {
     let ring = q.ring;
     let i = super::place(q.oldest, tsn);
-    let chunk = ring::nth(ring, cells, i);
-    let marked = acknowledge(chunk);
-    ring::put(ring, cells, i, marked);
-    let left = std::num::wrapping_sub_u64(q.bytes, chunk.length as u64);
+    let held = ring::parts::acknowledge_nth(ring, cells, i);
+    let left = std::num::wrapping_sub_u64(q.bytes, held as u64);
     Acked {
         queue: PayloadQueue {
             ring: ring,
@@ -50,7 +37,7 @@ pub fn mark_as_acked(q: PayloadQueue, cells: &mut [u64], tsn: u32) -> Acked
             bytes: left,
             due: q.due,
         },
-        bytes: chunk.length,
+        bytes: held,
     }
 }
 

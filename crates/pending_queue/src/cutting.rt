@@ -102,7 +102,8 @@ fn cut_into(
     while 0 < k {
         let bytes = size(k, maximum, left);
         let chunk = fragment(message, first, k == 1, from, bytes);
-        let pushed = ring::push(longer, cells, chunk);
+        let words = chunk_slot::pack(chunk);
+        let pushed = ring::push(longer, cells, words);
         longer = pushed.ring;
         from += maximum as u64;
         left = less(left, maximum);

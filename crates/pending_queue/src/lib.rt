@@ -5,17 +5,21 @@ pub mod asks;
 pub mod cutting;
 pub mod removal;
 
+use chunk_slot::FoundWords;
+use chunk_slot::Words;
 use cutting::Added;
 use model::Found;
 use ring::Ring;
 ghost use mathlib.Core.Path.{_≡_};
+ghost use mathlib.Core.Bool.{not};
 ghost use mathlib.Core.List.{List};
-ghost use Prim.Native.Nat.{ℕ, min};
+ghost use Prim.Native.Nat.{ℕ, _+_, _%_, _^_, min};
 ghost use Rattle.limits.specs.Limits.{clockMax};
 ghost use Rattle.limits.specs.Flags.{isSet, bitOf};
 ghost use Rattle.model.specs.State.{laneOf};
 ghost use Rattle.model.specs.Rings.{laneAhead, head};
 ghost use Rattle.model.specs.Flight.{found};
+ghost use Rattle.chunk_slot.specs.Meaning.{chunkFor, foundFor};
 ghost use Rattle.ring.specs.Held.{held};
 ghost use Rattle.pending_queue.specs.Queue.{underWayOf, noPending, pendingIn, Counted};
 ghost use Rattle.pending_queue.specs.Adding.{withAdded};
@@ -34,7 +38,7 @@ pub struct PendingQueue {
 
 pub struct Popped {
     pub queue: PendingQueue,
-    pub front: Found,
+    pub front: FoundWords,
 }
 
 // Nothing is pending, whatever the cells are.
@@ -83,44 +87,70 @@ fn flag(b: bool) -> u8
     0
 }
 
-// Takes that chunk. One that does not end its message puts this under way.
-pub fn pop(queue: PendingQueue, unordered: &[u64], ordered: &[u64]) -> Popped
-    ensures { λ r. ⌜ Pops queue (now (unordered .entry)) (now (ordered .entry)) (r .queue) (r .front) ⌝ }
+// What is kept behind a chunk: the bytes without its own, and whether its message is under way.
+struct Kept {
+    bytes: u64,
+    selected: u8,
+}
+
+fn behind(bytes: u64, words: Words) -> Kept
+    ensures { λ r. ⌜ ((r .bytes + chunkFor words .length) % 2 ^ 64 ≡ bytes) × (isSet (r .selected) ≡ not (chunkFor words .ending)) ⌝ }
 {
-    let front = peek(queue, unordered, ordered);
-    let Found::One(chunk) = front else {
-        return Popped {
-            queue: queue,
-            front: Found::Nothing,
-        };
-    };
-    let bytes = std::num::wrapping_sub_u64(queue.bytes, chunk.length as u64);
-    let selected = flag(!chunk.ending);
+    let length = chunk_slot::length_of(words);
+    let ending = chunk_slot::is_ending(words);
+    let left = std::num::wrapping_sub_u64(bytes, length as u64);
+    let selected = flag(!ending);
+    Kept {
+        bytes: left,
+        selected: selected,
+    }
+}
+
+// Takes that chunk, as its words. One that does not end its message puts this under way.
+pub fn pop(queue: PendingQueue, unordered: &[u64], ordered: &[u64]) -> Popped
+    ensures { λ r. ⌜ Pops queue (now (unordered .entry)) (now (ordered .entry)) (r .queue) (foundFor (r .front)) ⌝ }
+{
     let unordered_ring = queue.unordered;
     let ordered_ring = queue.ordered;
     if from_unordered(queue, unordered) {
+        let first = ring::front(unordered_ring, unordered);
+        let FoundWords::One(words) = first else {
+            return Popped {
+                queue: queue,
+                front: FoundWords::Nothing,
+            };
+        };
+        let kept = behind(queue.bytes, words);
         let rest = ring::shorter(unordered_ring, unordered);
         return Popped {
             queue: PendingQueue {
                 unordered: rest,
                 ordered: ordered_ring,
-                bytes: bytes,
-                selected: selected,
+                bytes: kept.bytes,
+                selected: kept.selected,
                 unordered_is_selected: 1,
             },
-            front: front,
+            front: first,
         };
     }
+    let first = ring::front(ordered_ring, ordered);
+    let FoundWords::One(words) = first else {
+        return Popped {
+            queue: queue,
+            front: FoundWords::Nothing,
+        };
+    };
+    let kept = behind(queue.bytes, words);
     let rest = ring::shorter(ordered_ring, ordered);
     Popped {
         queue: PendingQueue {
             unordered: unordered_ring,
             ordered: rest,
-            bytes: bytes,
-            selected: selected,
+            bytes: kept.bytes,
+            selected: kept.selected,
             unordered_is_selected: 0,
         },
-        front: front,
+        front: first,
     }
 }
 

@@ -1,8 +1,10 @@
 // A ring of chunks in lent cells. The two numbers go by value, the cells are a slice of words that the caller lends, and its length is
 // the ring's room. What a ring holds is the list `held`, for every value of the two numbers, so no call asks anything of its caller.
-// A caller's proof goes by that list: `count` is its length, `nth` its element, `put` its `set`, `push` its `++`, `shorter` its `drop 1`.
+// A caller's proof goes by that list: `count` is its length, `nth` its element, `push` its `++`, `shorter` its `drop 1`.
 pub mod parts;
 
+use chunk_slot::FoundWords;
+use chunk_slot::Words;
 use model::Chunk;
 use model::Found;
 ghost use mathlib.Core.Path.{_≡_};
@@ -13,6 +15,7 @@ ghost use Rattle.model.specs.Lists.{first};
 ghost use Rattle.model.specs.Flight.{found};
 ghost use Rattle.cells.specs.Slots.{roomOf};
 ghost use Rattle.chunk_slot.specs.Chunks.{blankChunk};
+ghost use Rattle.chunk_slot.specs.Meaning.{chunkFor, foundFor};
 ghost use Rattle.rows.specs.Joins.{pushed};
 ghost use Rattle.ring.specs.Held.{slotOf, held};
 
@@ -75,17 +78,17 @@ pub fn nth(ring: Ring, cells: &[u64], i: usize) -> Chunk
     chunk_slot::load(cells, at)
 }
 
-// The i-th chunk is replaced, where there is one.
-pub fn put(ring: Ring, cells: &mut [u64], i: usize, chunk: Chunk)
-    ensures { λ _. ⌜ held ring (now (cells .exit)) ≡ set (held ring (now (cells .entry))) i chunk ⌝ }
+// The i-th chunk is replaced by that of the words, where there is one.
+fn put(ring: Ring, cells: &mut [u64], i: usize, words: Words)
+    ensures { λ _. ⌜ held ring (now (cells .exit)) ≡ set (held ring (now (cells .entry))) i (chunkFor words) ⌝ }
 {
     let at = slot(ring, cells, i);
-    chunk_slot::store(cells, at, chunk);
+    chunk_slot::write(cells, at, words);
 }
 
-// One more at the end, where there is room.
-pub fn push(ring: Ring, cells: &mut [u64], chunk: Chunk) -> Pushed
-    ensures { λ r. ⌜ (held (r .ring) (now (cells .exit)) ≡ pushed (roomOf (now (cells .entry))) (held ring (now (cells .entry))) chunk) × (r .done ≡ ltb (length (held ring (now (cells .entry)))) (roomOf (now (cells .entry)))) ⌝ }
+// One more at the end, where there is room: the chunk of the words.
+pub fn push(ring: Ring, cells: &mut [u64], words: Words) -> Pushed
+    ensures { λ r. ⌜ (held (r .ring) (now (cells .exit)) ≡ pushed (roomOf (now (cells .entry))) (held ring (now (cells .entry))) (chunkFor words)) × (r .done ≡ ltb (length (held ring (now (cells .entry)))) (roomOf (now (cells .entry)))) ⌝ }
 {
     let len = ring.len;
     if cells::room(cells) <= len {
@@ -99,7 +102,7 @@ pub fn push(ring: Ring, cells: &mut [u64], chunk: Chunk) -> Pushed
         start: ring.start,
         len: more,
     };
-    put(longer, cells, len, chunk);
+    put(longer, cells, len, words);
     Pushed {
         ring: longer,
         done: true,
@@ -132,14 +135,26 @@ pub fn get(ring: Ring, cells: &[u64], i: usize) -> Found
     Found::One(chunk)
 }
 
+// The words of the first chunk, or nothing.
+pub fn front(ring: Ring, cells: &[u64]) -> FoundWords
+    ensures { λ r. ⌜ foundFor r ≡ found (first (held ring (now (cells .entry)))) ⌝ }
+{
+    if count(ring, cells) == 0 {
+        return FoundWords::Nothing;
+    }
+    let start = fold(ring.start, cells::room(cells));
+    let words = chunk_slot::read(cells, start);
+    FoundWords::One(words)
+}
+
 // The first chunk, or nothing.
 pub fn peek(ring: Ring, cells: &[u64]) -> Found
     ensures { λ r. ⌜ r ≡ found (first (held ring (now (cells .entry)))) ⌝ }
 {
-    if count(ring, cells) == 0 {
+    let first = front(ring, cells);
+    let FoundWords::One(words) = first else {
         return Found::Nothing;
-    }
-    let start = fold(ring.start, cells::room(cells));
-    let chunk = chunk_slot::load(cells, start);
+    };
+    let chunk = chunk_slot::unpack(words);
     Found::One(chunk)
 }

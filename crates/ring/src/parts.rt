@@ -7,7 +7,7 @@ ghost use lib.ListN.{getD};
 ghost use Rattle.limits.specs.Limits.{clockMax};
 ghost use Rattle.model.specs.Lists.{adjust};
 ghost use Rattle.model.specs.Rings.{givenUp, lowered, started};
-ghost use Rattle.model.specs.Flight.{toRetransmit, hasStream};
+ghost use Rattle.model.specs.Flight.{acknowledged, toRetransmit, hasStream};
 ghost use Rattle.chunk_slot.specs.Chunks.{blankChunk};
 ghost use Rattle.chunk_slot.specs.Changes.{heldOf};
 ghost use Rattle.ring.specs.Held.{held};
@@ -49,6 +49,14 @@ pub fn mark_nth(ring: Ring, cells: &mut [u64], i: usize)
 {
     let at = super::slot(ring, cells, i);
     chunk_slot::parts::mark_at(cells, at);
+}
+
+// The i-th is acknowledged, and holds nothing from then on; the answer is the bytes that it held, and 0 past the end.
+pub fn acknowledge_nth(ring: Ring, cells: &mut [u64], i: usize) -> u32
+    ensures { λ r. ⌜ (r ≡ getD (held ring (now (cells .entry))) i blankChunk .length) × (held ring (now (cells .exit)) ≡ adjust acknowledged i (held ring (now (cells .entry)))) ⌝ }
+{
+    let at = super::slot(ring, cells, i);
+    chunk_slot::parts::acknowledge_at(cells, at)
 }
 
 // The i-th is given up, if it is of the message; the answer is the bytes that it held of it.

@@ -60,18 +60,21 @@ returns c =
 terminate-requires : tie.Need-terminate-requires
 terminate-requires c κs = search needs
 
+pack-requires : tie.Need-pack-requires
+pack-requires c κs = search needs
+
 file-requires : tie.Need-file-requires
 file-requires c κs = search needs
 
 same-length-2 : tie.Need-same-length-2
-same-length-2 c = let q = c .before .before .before .before .before .before .before .before .before .before .before .before .before .before .before .give-up-entries in search needs
+same-length-2 c = let q = c .before .before .before .before .before .before .before .before .before .before .before .before .before .before .before .before .give-up-entries in search needs
 
 returns-2 : tie.Need-returns-2
 returns-2 c =
-    let a = c .before .before .before .before .before .before .before .before .before .before .before .before .before .before .before .before .before .before .args in
-    let g = c .before .before .before .before .before .before .before .before .before .before .before .before .before .before .before .give-up-entries in
-    let r = c .before .before .before .before .before .before .before .before .before .before .before .remove-pending .ensures in
-    let x = c .before .before .before .before .before .before .last .given in
+    let a = c .before .before .before .before .before .before .before .before .before .before .before .before .before .before .before .before .before .before .before .args in
+    let g = c .before .before .before .before .before .before .before .before .before .before .before .before .before .before .before .before .give-up-entries in
+    let r = c .before .before .before .before .before .before .before .before .before .before .before .before .remove-pending .ensures in
+    let x = c .before .before .before .before .before .before .before .last .given in
     let f = c .before .before .file .ensures in
     let n = sym (r .2) ∙ x .1 in
     let vs = g .last .1 .0 in
@@ -80,7 +83,7 @@ returns-2 c =
     let e = g .ensures in (
       λ room ts h.
           let s = senderOf ts (a .q) (now (a .cells)) in (
-            gives-one room (a .number) (a .near) s (e .0 .0 ts) (r .0 .0 ts) (x .0 .0) n (c .before .before .before .terminate .ensures) (room-stays ∙ sym h) (f .0 ts),
+            gives-one room (a .number) (a .near) s (e .0 .0 ts) (r .0 .0 ts) (x .0 .0) n (c .before .before .before .before .pack .ensures ∙ c .before .before .before .before .before .terminate .ensures) (room-stays ∙ sym h) (f .0 ts),
             gives-held (a .number) (a .near) s (e .0 .0 ts) (e .1) (r .1),
           ),
       λ k. f .1 (r .0 .1 (e .0 .1 k)),
@@ -98,6 +101,7 @@ give-up-spec =
     same-length
     returns
     terminate-requires
+    pack-requires
     file-requires
     same-length-2
     returns-2)

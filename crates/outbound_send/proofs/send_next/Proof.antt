@@ -4,6 +4,7 @@ use Prim.Native.Nat.{ℕ, _/_, min}
 use denote.Ref.{now}
 use lib.ListN.{length}
 use Rattle.cells.specs.Slots.{limit}
+use Rattle.chunk_slot.specs.Meaning.{chunkFor, foundFor}
 use Rattle.outbound_queue.specs.Outbound.{ringRoom, senderOf, does}
 use Rattle.outbound_send.specs.Sends.{lean-send, send-late, in-range, send-full, send-none, send-one}
 use borrow.Author.Needs.{needs}
@@ -51,7 +52,7 @@ returns-3 c =
     let h = c .before .before .before .before .before .before .before .before .before .before .before .before .before .before .if1 .left in
     let e = c .before .before .before .before .before .before .before .start-rings .ensures in
     let t = c .before .before .before .take-head .ensures in
-    let q = sym (t .1) ∙ c .enum-told .given .1 in (
+    let q = sym (t .1) ∙ ap foundFor (c .enum-told .given .1) in (
       (
         λ room ts r.
             let s = senderOf ts (a .q) (now (a .cells)) in
@@ -61,32 +62,35 @@ returns-3 c =
       λ n. absurd (n refl),
     )
 
-stamp-requires : tie.Need-stamp-requires
-stamp-requires c κs = search needs
+stamped-requires : tie.Need-stamped-requires
+stamped-requires c κs = search needs
 
 file-requires : tie.Need-file-requires
 file-requires c κs = search needs
 
+unpack-requires : tie.Need-unpack-requires
+unpack-requires c κs = search needs
+
 same-length-3 : tie.Need-same-length-3
-same-length-3 c = let q = c .before .before .before .before .before .before .before .before .before .before .before .before .before .start-rings in search needs
+same-length-3 c = let q = c .before .before .before .before .before .before .before .before .before .before .before .before .before .before .start-rings in search needs
 
 returns-4 : tie.Need-returns-4
 returns-4 c =
-    let a = c .before .before .before .before .before .before .before .before .before .before .before .before .before .before .before .before .before .before .before .before .before .before .args in
-    let h = c .before .before .before .before .before .before .before .before .before .before .before .before .before .before .before .before .before .before .before .before .if1 .left in
-    let e = c .before .before .before .before .before .before .before .before .before .before .before .before .before .start-rings .ensures in
-    let t = c .before .before .before .before .before .before .before .before .before .take-head .ensures in
-    let x = c .before .before .before .before .before .before .front .given in
-    let f = c .before .before .file .ensures in
-    let fits = sym (c .before .before .before .before .before .before .before .before .before .before .before .before .before .before .before .before .before .before .is-blocked .ensures) ∙ c .before .before .before .before .before .before .before .before .before .before .before .before .before .before .before .before .before .if2 .left in
-    let vs = c .before .before .before .before .before .before .before .before .before .before .before .before .before .start-rings .last .1 .0 in
-    let len : length vs ≡ length (now (a .cells)) = let q = c .before .before .before .before .before .before .before .before .before .before .before .before .before .start-rings in search needs in
+    let a = c .before .before .before .before .before .before .before .before .before .before .before .before .before .before .before .before .before .before .before .before .before .before .before .args in
+    let h = c .before .before .before .before .before .before .before .before .before .before .before .before .before .before .before .before .before .before .before .before .before .if1 .left in
+    let e = c .before .before .before .before .before .before .before .before .before .before .before .before .before .before .start-rings .ensures in
+    let t = c .before .before .before .before .before .before .before .before .before .before .take-head .ensures in
+    let x = c .before .before .before .before .before .before .before .front .given in
+    let f = c .before .before .before .file .ensures in
+    let fits = sym (c .before .before .before .before .before .before .before .before .before .before .before .before .before .before .before .before .before .before .before .is-blocked .ensures) ∙ c .before .before .before .before .before .before .before .before .before .before .before .before .before .before .before .before .before .before .if2 .left in
+    let vs = c .before .before .before .before .before .before .before .before .before .before .before .before .before .before .start-rings .last .1 .0 in
+    let len : length vs ≡ length (now (a .cells)) = let q = c .before .before .before .before .before .before .before .before .before .before .before .before .before .before .start-rings in search needs in
     let room-stays : ringRoom vs ≡ ringRoom (now (a .cells)) = ap (λ (n : ℕ). min (n / 24) limit) len in (
       (
         λ room ts r.
             let s = senderOf ts (a .q) (now (a .cells)) in
             does (λ g. lean-send (a .clock) g room)
-            (send-one room (a .clock) s r h (in-range (a .clock) s h (e .0 ts)) (t .0 .0 ts) (x .0 .0) (sym (t .1) ∙ x .1) fits (c .before .before .before .before .stamp .ensures) room-stays (f .0 ts) (c .before .before .before .before .before .before .before .before .before .before .before .before .before .before .before .next-tsn .ensures ts)),
+            (send-one room (a .clock) s r h (in-range (a .clock) s h (e .0 ts)) (t .0 .0 ts) (chunkFor (x .0 .0)) (sym (t .1) ∙ ap foundFor (x .1)) fits (c .unpack .ensures) (c .before .before .before .before .before .stamped .ensures) room-stays (f .0 ts) (c .before .before .before .before .before .before .before .before .before .before .before .before .before .before .before .before .next-tsn .ensures ts)),
         λ k. f .1 (t .0 .1 (e .1 k)),
       ),
       λ n. absurd (n refl),
@@ -107,7 +111,8 @@ send-next-spec =
     enum-told
     same-length-2
     returns-3
-    stamp-requires
+    stamped-requires
     file-requires
+    unpack-requires
     same-length-3
     returns-4)

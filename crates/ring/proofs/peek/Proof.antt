@@ -1,38 +1,31 @@
--- Nothing, or what the slot of the start holds.
-use mathlib.Core.Path.{_∙_, ap}
-use Prim.Native.Nat.{ℕ, _%_}
-use native.Mathlib.Omega.{arith}
-use denote.Ref.{now}
+-- The chunk of the words in front.
+use mathlib.Core.Path.{_∙_, sym, ap}
 use Rattle.model.specs.declared.Found.{Found}
-use Rattle.ring.specs.Held.{held, length-held, get-out, get-first, first-at}
+use Rattle.chunk_slot.specs.Meaning.{foundFor}
 use borrow.Author.Needs.{needs}
 use Rattle.ring.proofs.peek.Statement.{statement}
 use Rattle.ring.proofs.peek.Tie as tie
 
-count-requires : tie.Need-count-requires
-count-requires c κs = search needs
+front-requires : tie.Need-front-requires
+front-requires c κs = search needs
+
+enum-known-first : tie.Need-enum-known-first
+enum-known-first c = search needs
+
+enum-told : tie.Need-enum-told
+enum-told c = search needs
 
 returns : tie.Need-returns
-returns c =
-    let a = c .before .before .before .args in
-    let l = held (a .ring) (now (a .cells)) in
-    get-out l 0 (omega arith) ∙ get-first l
+returns c = sym (ap foundFor (c .enum-told .given .1)) ∙ c .before .before .front .ensures
 
-room-requires : tie.Need-room-requires
-room-requires c κs = search needs
-
-fold-requires : tie.Need-fold-requires
-fold-requires c κs = let a = c .before .before .before .before .args in omega (arith, length-held (a .ring) (now (a .cells)))
-
-load-requires : tie.Need-load-requires
-load-requires c κs = search needs
+unpack-requires : tie.Need-unpack-requires
+unpack-requires c κs = search needs
 
 returns-2 : tie.Need-returns-2
 returns-2 c =
-    let a = c .before .before .before .before .before .before .args in
-    let s = c .before .fold .ensures ∙ ap (λ (k : ℕ). a .ring .start % k) (c .before .before .room .ensures) in
-    ap Found.One (c .load .ensures) ∙ first-at (a .ring) (now (a .cells)) (c .before .fold .result) s (omega arith)
+    ap Found.One (c .unpack .ensures) ∙ sym (ap foundFor (c .before .before .first .given .1)) ∙ c .before .before .before .before .front .ensures
 
 pub peek-spec : {M : Type 1} → statement M
 peek-spec =
-    tie.close (tie.spec count-requires returns room-requires fold-requires load-requires returns-2)
+    tie.close
+    (tie.spec front-requires enum-known-first enum-told returns unpack-requires returns-2)

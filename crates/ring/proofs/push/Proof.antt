@@ -7,6 +7,7 @@ use lib.ListN.{length}
 use borrow.Author.Tests.{lt-ltb, le-ltb}
 use Rattle.cells.specs.Slots.{roomOf}
 use Rattle.rows.specs.Joins.{pushed-room, pushed-full}
+use Rattle.chunk_slot.specs.Meaning.{chunkFor}
 use Rattle.ring.specs.Held.{held, length-held, held-push}
 use borrow.Author.Needs.{needs}
 use Rattle.ring.proofs.push.Statement.{statement}
@@ -24,7 +25,7 @@ returns c =
     let ws = now (a .cells) in
     let l = held (a .ring) ws in
     let h : roomOf ws ≤ length l = omega (arith, length-held (a .ring) ws) in
-    (pushed-full (roomOf ws) l (a .chunk) h, sym (le-ltb (length l) (roomOf ws) h))
+    (pushed-full (roomOf ws) l (chunkFor (a .words)) h, sym (le-ltb (length l) (roomOf ws) h))
 
 add-more : tie.Need-add-more
 add-more c = search needs
@@ -41,7 +42,7 @@ returns-2 c =
     let ws = now (a .cells) in
     let l = held (a .ring) ws in
     let h : length l < roomOf ws = omega (arith, length-held (a .ring) ws) in
-    (c .before .before .put .ensures ∙ held-push (a .ring) ws (a .chunk) (omega arith) ∙ pushed-room (roomOf ws) l (a .chunk) h, sym (lt-ltb (length l) (roomOf ws) h))
+    (c .before .before .put .ensures ∙ held-push (a .ring) ws (chunkFor (a .words)) (omega arith) ∙ pushed-room (roomOf ws) l (chunkFor (a .words)) h, sym (lt-ltb (length l) (roomOf ws) h))
 
 pub push-spec : {M : Type 1} → statement M
 push-spec =

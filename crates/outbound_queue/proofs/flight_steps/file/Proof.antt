@@ -4,6 +4,7 @@ use Prim.Native.Nat.{ℕ, _+_}
 use denote.Ref.{now}
 use Rattle.model.specs.State.{Flight}
 use Rattle.rows.specs.Parts.{patch}
+use Rattle.chunk_slot.specs.Meaning.{chunkFor}
 use Rattle.payload_queue.specs.Queue.{filed}
 use Rattle.payload_queue.specs.Model.{withFlight}
 use Rattle.outbound_queue.specs.Outbound.{third, ringsIn, flying, remade, senderOf, flight-room, flight-back, sender-by, counted-by}
@@ -52,7 +53,7 @@ returns c =
     let p = m .last .1 .0 in
     let b = flight-back ws p (search needs) in
     let vs = patch (k + k) (k + k + k) ws p in
-    let f = e .0 ∙ ap (λ (n : ℕ). filed n (a .chunk) (flying (a .q) (ringsIn ws))) (flight-room ws) in (
+    let f = e .0 ∙ ap (λ (n : ℕ). filed n (chunkFor (a .words)) (flying (a .q) (ringsIn ws))) (flight-room ws) in (
       λ ts. sender-by ts q vs b ∙ ap (λ (f : Flight). withFlight f (senderOf ts (a .q) ws)) f,
       λ h. counted-by q vs b (h .0, e .1 (h .1)),
     )

@@ -10,6 +10,7 @@ use lib.Dec.{eqb}
 use Rattle.model.specs.Messages.{pieces, piece, cut}
 use Rattle.cells.specs.Slots.{roomOf, limit}
 use Rattle.rows.specs.Joins.{pushed-room}
+use Rattle.chunk_slot.specs.Meaning.{chunkFor}
 use Rattle.ring.specs.Held.{held}
 use Rattle.pending_queue.specs.Fragments.{fits-parts, cut-turn, cut-done}
 use borrow.Author.Needs.{needs}
@@ -40,11 +41,14 @@ size-requires c κs = search needs
 fragment-requires : tie.Need-fragment-requires Inv-loop μ-loop
 fragment-requires c κs = search needs
 
+pack-requires : tie.Need-pack-requires Inv-loop μ-loop
+pack-requires c κs = search needs
+
 push-requires : tie.Need-push-requires Inv-loop μ-loop
 push-requires c κs = search needs
 
 add-from : tie.Need-add-from Inv-loop μ-loop
-add-from c = omega (arith, c .before .before .before .before .before .before .before .before .before .before .before .fits .maximum .fits)
+add-from c = omega (arith, c .before .before .before .before .before .before .before .before .before .before .before .before .fits .maximum .fits)
 
 less-requires : tie.Need-less-requires Inv-loop μ-loop
 less-requires c κs = search needs
@@ -57,18 +61,21 @@ loop-less c = search needs
 
 loop-again : tie.Need-loop-again Inv-loop μ-loop
 loop-again c =
-    let a = c .before .before .before .before .before .before .before .before .before .before .before .before .args in
-    let l = c .before .before .before .before .before .before .before .before .before .loop in
+    let a = c .before .before .before .before .before .before .before .before .before .before .before .before .before .args in
+    let l = c .before .before .before .before .before .before .before .before .before .before .loop in
     let m = held (l .longer) (l .cells) in
-    let f = c .before .before .before .before .before .before .fragment in
+    let f = c .before .before .before .before .before .before .before .fragment in
+    let w = c .before .before .before .before .before .before .pack in
+    let x = chunkFor (w .result) in
     let room : roomOf (l .cells) ≡ roomOf (now (a .cells)) = ap (λ (n : ℕ). min (n / 8) limit) (l .inv .0) in
-    let h : length m < roomOf (l .cells) = omega arith in
-    let p = c .before .before .before .before .push .ensures .0 ∙ sym (pushed-room (roomOf (l .cells)) m (f .result) h) in
-    let q = f .ensures ∙ ap (piece (a .message) (l .first) (eqb (l .k) 1) (l .from)) (c .before .before .before .before .before .before .before .size .ensures) in (
+    let more = c .before .before .before .before .before .before .before .before .before .loop-test .taken in
+    let h : length m < roomOf (l .cells) = omega (arith, l .inv .1, room, more) in
+    let p = c .before .before .before .before .push .ensures .0 ∙ sym (pushed-room (roomOf (l .cells)) m x h) in
+    let q = w .ensures ∙ f .ensures ∙ ap (piece (a .message) (l .first) (eqb (l .k) 1) (l .from)) (c .before .before .before .before .before .before .before .before .size .ensures) in (
       search needs,
-      omega (arith, ap length p, length-append m (f .result ∷ [])),
-      omega (arith, c .before .before .before .before .before .before .before .before .before .before .before .before .fits .maximum .fits),
-      cut-turn (a .message) (l .first) (l .k) (a .maximum) (l .from) (l .left) m (c .before .before .before .before .before .before .before .before .loop-test .taken) q p (c .less .ensures) (l .inv .3),
+      omega (arith, ap length p, length-append m (x ∷ []), l .inv .1, more),
+      omega (arith, c .before .before .before .before .before .before .before .before .before .before .before .before .before .fits .maximum .fits, l .inv .2, more),
+      cut-turn (a .message) (l .first) (l .k) (a .maximum) (l .from) (l .left) m more q p (c .less .ensures) (l .inv .3),
     )
 
 same-length : tie.Need-same-length Inv-loop μ-loop
@@ -90,6 +97,7 @@ cut-into-spec =
     loop-holds
     size-requires
     fragment-requires
+    pack-requires
     push-requires
     add-from
     less-requires
