@@ -2,12 +2,14 @@
 use super::Sender;
 use model::Found;
 use model::Listed;
+use sender_head::Head;
 ghost use mathlib.Core.Path.{_≡_};
 ghost use Rattle.limits.specs.Limits.{room01};
 ghost use Rattle.model.specs.Flight.{acknowledge, pop, markAll};
 ghost use Rattle.model.specs.Told.{toldFound, tellsNumber};
 ghost use Rattle.sender.specs.Value.{stateOf, Sums, Goes};
 ghost use Rattle.outbound_abandon.specs.LeanListing.{Lists};
+ghost use Rattle.sender_head.specs.Whole.{roomIn, senderOf, Counted};
 
 // The bytes that the entry held.
 pub struct Acked {
@@ -66,12 +68,18 @@ pub fn mark_all(s: Sender) -> Sender
     }
 }
 
-// The TSNs in flight whose message has expired, in the front of the lent list; the rest of that stays. Refusals: 1, 11. The sender's bound of the
-// deadlines stays too: no sender is given back.
+// Without the head that comes back: the bound of the deadlines stays as it is.
+fn expired(h: Head, cells: &[u64], clock: u64, out: &mut [u32]) -> Listed
+    ensures { λ r. ⌜ Lists (Counted h (now (cells .entry))) (roomIn (now (cells .entry))) clock (h .queue .inflight .due) (senderOf h (now (cells .entry))) (now (out .entry)) (now (out .exit)) r ⌝ }
+{
+    let found = sender_calls::flight::expired_inflight(h, cells, clock, out);
+    found.answer
+}
+
+// The TSNs in flight whose message has expired, in the front of the lent list; the rest of that stays. Refusals: 1, 11.
 pub fn expired_inflight(s: Sender, clock: u64, out: &mut [u32]) -> Listed
     ensures { λ r. ⌜ Lists (Sums s) room01 clock (s .head .queue .inflight .due) (stateOf s) (now (out .entry)) (now (out .exit)) r ⌝ }
 {
     let cells = s.cells;
-    let found = sender_calls::flight::expired_inflight(s.head, &cells, clock, out);
-    found.answer
+    expired(s.head, &cells, clock, out)
 }
