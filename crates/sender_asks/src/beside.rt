@@ -101,7 +101,7 @@ fn flight_deadline(q: OutboundQueue, cells: &[u64]) -> Moment
     soonest_of(q.inflight.ring, &cells[k + k..k + k + k])
 }
 
-// The earlier of the head's deadline and of those in flight: before it no message expires.
+// The earlier of the head's deadline and of those in flight. Before it, no call finds that a message has expired.
 pub fn next_deadline(h: Head, cells: &[u64]) -> Moment
     ensures { λ r. ⌜ r ≡ nextDeadline (senderOf h (now (cells .entry))) ⌝ }
 {
