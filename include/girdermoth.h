@@ -220,6 +220,14 @@ girdermoth_reply girdermoth_buffered_amount_low_threshold(const girdermoth_sende
 girdermoth_reply girdermoth_buffered_amount_high_threshold(const girdermoth_sender *s, uint16_t identifier);
 // What was written on the stream: messages of the payload types 51, 53, 56 and 57, and the bytes of those of 51 and 53. Refused: NOT_OPEN.
 girdermoth_counts girdermoth_stats(const girdermoth_sender *s, uint16_t identifier);
+// `value` is the oldest TSN in flight, acknowledged or abandoned as it may be, where `yes` is set: girdermoth_pop takes that one, and the walk for
+// FORWARD-TSN begins there.
+girdermoth_reply girdermoth_oldest_tsn(const girdermoth_sender *s);
+// `value` is how many more fragments the ring of unordered messages takes, or that of ordered ones: a message of more is refused with RING_FULL.
+girdermoth_reply girdermoth_ring_room(const girdermoth_sender *s, bool unordered);
+// `value` is the earliest deadline of the chunk at the head and of those in flight that are neither acknowledged nor abandoned, where `yes` is set: a
+// host that has expired all that was due may wait until then. A message whose lifetime has not started has no deadline yet.
+girdermoth_reply girdermoth_next_deadline(const girdermoth_sender *s);
 
 // ---- the round-trip estimator: one struct that the caller owns, and lends to each call as it does a sender
 

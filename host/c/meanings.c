@@ -87,6 +87,7 @@ static void fragments(void) {
     fresh(true, GIRDERMOTH_TIMED, 5);
     girdermoth_write(&s, 21, 53, 0, 10);
     girdermoth_start_timed_messages(&s, 0);
+    WANT(girdermoth_next_deadline(&s).yes && girdermoth_next_deadline(&s).value == 5 && !girdermoth_oldest_tsn(&s).yes);
     freed = girdermoth_expire_pending(&s, 5);
     WANT(freed.some && freed.unordered && freed.bytes == 10 && freed.stream == 21 && freed.message_id == 0);
     girdermoth_write(&s, 21, 53, 0, 150);
@@ -105,6 +106,8 @@ static void questions(void) {
     WANT(girdermoth_pending_len(&s).value == 3 && girdermoth_pending_bytes(&s).value == 151);
     WANT(girdermoth_inflight_len(&s).value == 1 && girdermoth_inflight_bytes(&s).value == 100);
     WANT(girdermoth_earliest_outstanding_tsn(&s).yes && girdermoth_earliest_outstanding_tsn(&s).value == 7000);
+    WANT(girdermoth_oldest_tsn(&s).yes && girdermoth_oldest_tsn(&s).value == 7000 && !girdermoth_next_deadline(&s).yes);
+    WANT(girdermoth_ring_room(&s, false).value == GIRDERMOTH_RING_ROOM - 3 && girdermoth_ring_room(&s, true).value == GIRDERMOTH_RING_ROOM);
     WANT(girdermoth_stats(&s, 21).messages == 2 && girdermoth_stats(&s, 21).bytes == 250);
     girdermoth_set_buffered_amount_low_threshold(&s, 21, 200);
     girdermoth_set_buffered_amount_high_threshold(&s, 21, 260);

@@ -154,7 +154,7 @@ impl Timers {
 }
 
 /// The calls on a sender: the name, and whether it only asks.
-pub(crate) const CALLS: [(&str, bool); 32] = [
+pub(crate) const CALLS: [(&str, bool); 35] = [
     ("girdermoth_init", false),
     ("girdermoth_open_stream", false),
     ("girdermoth_set_reliability_params", false),
@@ -187,6 +187,9 @@ pub(crate) const CALLS: [(&str, bool); 32] = [
     ("girdermoth_buffered_amount_low_threshold", true),
     ("girdermoth_buffered_amount_high_threshold", true),
     ("girdermoth_stats", true),
+    ("girdermoth_oldest_tsn", true),
+    ("girdermoth_ring_room", true),
+    ("girdermoth_next_deadline", true),
 ];
 
 /// A call on a sender, with any numbers and a list that is lent.
@@ -224,6 +227,9 @@ pub(crate) fn call(which: usize, s: &mut Sender, list: &mut [u32], [a, b, c, d]:
         29 => girdermoth_buffered_amount_low_threshold(s, a as u16).told(),
         30 => girdermoth_buffered_amount_high_threshold(s, a as u16).told(),
         31 => girdermoth_stats(s, a as u16).told(),
+        32 => girdermoth_oldest_tsn(s).told(),
+        33 => girdermoth_ring_room(s, a % 2 == 1).told(),
+        34 => girdermoth_next_deadline(s).told(),
         _ => unreachable!("there are {} calls", CALLS.len()),
     }
 }

@@ -291,6 +291,25 @@ impl Sender {
     pub fn contains_stream(&self, stream: StreamId) -> bool {
         sys::girdermoth_contains_stream(&self.0, stream).yes != 0
     }
+
+    /// The oldest TSN in flight, acknowledged or abandoned as it may be: [`pop`](Self::pop) takes that one, and the walk for FORWARD-TSN begins there.
+    pub fn oldest_tsn(&self) -> Option<u32> {
+        let reply = sys::girdermoth_oldest_tsn(&self.0);
+        (reply.yes != 0).then_some(reply.value as u32)
+    }
+
+    /// How many more fragments the ring of unordered messages takes, or that of ordered ones: a message of more is refused with
+    /// [`RingFull`](Refusal::RingFull).
+    pub fn ring_room(&self, unordered: bool) -> usize {
+        sys::girdermoth_ring_room(&self.0, unordered).value as usize
+    }
+
+    /// The earliest deadline of the chunk at the head and of those in flight that are neither acknowledged nor abandoned: a host that has expired
+    /// all that was due may wait until then. A message whose lifetime has not started has no deadline yet.
+    pub fn next_deadline(&self) -> Option<u64> {
+        let reply = sys::girdermoth_next_deadline(&self.0);
+        (reply.yes != 0).then_some(reply.value)
+    }
 }
 
 #[cfg(test)]

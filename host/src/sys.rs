@@ -248,6 +248,9 @@ unsafe extern "C" {
     pub(crate) safe fn girdermoth_buffered_amount_low_threshold(s: &Sender, identifier: u16) -> Reply;
     pub(crate) safe fn girdermoth_buffered_amount_high_threshold(s: &Sender, identifier: u16) -> Reply;
     pub(crate) safe fn girdermoth_stats(s: &Sender, identifier: u16) -> Counts;
+    pub(crate) safe fn girdermoth_oldest_tsn(s: &Sender) -> Reply;
+    pub(crate) safe fn girdermoth_ring_room(s: &Sender, unordered: bool) -> Reply;
+    pub(crate) safe fn girdermoth_next_deadline(s: &Sender) -> Reply;
 
     // ---- the round-trip estimator: one struct that the caller owns, and lends to each call as it does a sender
     pub(crate) safe fn girdermoth_rto_new(s: &mut Rto, initial: u64, low: u64, high: u64) -> u8;

@@ -20,7 +20,8 @@ impl Rng {
 fn asked(s: &Sender, oldest: u32) -> impl PartialEq + std::fmt::Debug + use<> {
     let flight: Vec<Chunk> = (0..s.inflight_len() as u32).map(|at| s.get(oldest.wrapping_add(at)).expect("TSNs are consecutive")).collect();
     let streams: Vec<_> = (0..4).map(|id| (s.buffered_amount(id), s.stats(id), s.pending_contains_stream(id), s.contains_stream(id))).collect();
-    (flight, streams, s.peek_pending(), s.pending_len(), s.pending_bytes(), s.next_message_id(), s.next_tsn())
+    let beside = (s.oldest_tsn(), s.ring_room(false), s.ring_room(true), s.next_deadline());
+    (flight, streams, s.peek_pending(), s.pending_len(), s.pending_bytes(), s.next_message_id(), s.next_tsn(), beside)
 }
 
 fn agrees(s: &Sender, oldest: u32) {
@@ -29,6 +30,10 @@ fn agrees(s: &Sender, oldest: u32) {
     let flight: Vec<Chunk> = (0..s.inflight_len() as u32).filter_map(|at| s.get(oldest.wrapping_add(at))).collect();
     assert_eq!(flight.iter().map(|c| u64::from(c.length)).sum::<u64>(), s.inflight_bytes());
     assert_eq!(flight.iter().find(|c| !c.acked && !c.abandoned).map(|c| c.tsn), s.earliest_outstanding_tsn());
+    assert_eq!(flight.first().map(|c| c.tsn), s.oldest_tsn());
+    assert_eq!(s.ring_room(false) + s.ring_room(true) + s.pending_len(), 2 * RING_ROOM);
+    let outstanding = flight.iter().filter(|c| !c.acked && !c.abandoned);
+    assert_eq!(outstanding.chain(&s.peek_pending()).filter_map(|c| c.deadline).min(), s.next_deadline());
     let mut ends: BTreeMap<u64, usize> = BTreeMap::new();
     for c in &flight {
         assert!(!(c.retransmit && (c.acked || c.abandoned)), "what is settled is not sent again: {c:?}");

@@ -318,3 +318,56 @@ fn a_copy_goes_its_own_way() {
     assert_eq!(copy.send_next(0).unwrap().unwrap().tsn, 0);
     assert!(format!("{s:?}").contains("inflight_len: 1"));
 }
+
+#[test]
+fn the_oldest_tsn_is_that_of_the_front_whatever_became_of_it() {
+    let mut s = timed(u32::MAX);
+    assert_eq!(s.oldest_tsn(), None);
+    s.write(1, BINARY, 0, 2_400).unwrap();
+    while s.send_next(0).unwrap().is_some() {}
+    s.mark_as_acked(u32::MAX);
+    assert_eq!((s.oldest_tsn(), s.earliest_outstanding_tsn()), (Some(u32::MAX), Some(0)));
+    s.pop(u32::MAX).unwrap();
+    s.abandon(0).unwrap();
+    assert_eq!((s.oldest_tsn(), s.earliest_outstanding_tsn()), (Some(0), None));
+    s.pop(0).unwrap();
+    assert_eq!(s.oldest_tsn(), None);
+}
+
+#[test]
+fn a_ring_takes_as_many_fragments_as_it_tells() {
+    let mut s = timed(0);
+    s.open_stream(2, 10).unwrap();
+    s.set_reliability_params(2, true, ReliabilityType::Reliable, 0).unwrap();
+    assert_eq!((s.ring_room(false), s.ring_room(true)), (RING_ROOM, RING_ROOM));
+    s.write(1, BINARY, 0, 3_000).unwrap();
+    s.write(2, BINARY, 0, 2_000).unwrap();
+    assert_eq!((s.ring_room(false), s.ring_room(true)), (RING_ROOM - 3, RING_ROOM - 200));
+    assert_eq!(s.write(2, BINARY, 0, 570), Err(Refusal::RingFull));
+    s.write(2, BINARY, 0, 560).unwrap();
+    assert_eq!(s.ring_room(true), 0);
+    s.send_next(0).unwrap();
+    assert_eq!((s.ring_room(false), s.ring_room(true)), (RING_ROOM - 3, 1));
+}
+
+#[test]
+fn the_next_deadline_is_the_earlier_of_the_head_and_the_flight() {
+    let mut s = timed(0);
+    s.write(1, BINARY, 0, 10).unwrap();
+    assert_eq!(s.next_deadline(), None, "its lifetime has not started");
+    s.start_timed_messages(0).unwrap();
+    assert_eq!(s.next_deadline(), Some(100), "the head's");
+    s.send_next(0).unwrap();
+    s.set_reliability_params(1, false, ReliabilityType::Timed, 20).unwrap();
+    s.write(1, BINARY, 0, 10).unwrap();
+    s.start_timed_messages(30).unwrap();
+    assert_eq!(s.next_deadline(), Some(50), "the head's, before that in flight");
+    s.send_next(30).unwrap();
+    s.mark_as_acked(1);
+    assert_eq!(s.next_deadline(), Some(100), "what is acknowledged does not expire");
+    s.abandon(0).unwrap();
+    assert_eq!(s.next_deadline(), None);
+    s.write(1, PayloadProtocolIdentifier::DCEP, 0, 10).unwrap();
+    s.start_timed_messages(40).unwrap();
+    assert_eq!(s.next_deadline(), None, "payload type 50 gets none");
+}

@@ -3,7 +3,8 @@ use mathlib.Core.Bool.{Bool, false}
 use Prim.Native.Nat.{ℕ}
 use lib.ListN.{drop}
 pub use Rattle.limits.specs.Moments.{present, timeOf}
-use Rattle.limits.specs.Told.{Told, tells, refusing, tellsFlag, tellsNumber, valueAt, flagAt, given}
+use Rattle.limits.specs.declared.Moment.{Moment}
+use Rattle.limits.specs.Told.{Told, tells, refusing, tellsFlag, tellsNumber, tellsMoment, valueAt, flagAt, given}
 use Rattle.model.specs.declared.Chunk.{Chunk}
 use Rattle.model.specs.declared.Done.{Done}
 use Rattle.model.specs.declared.Written.{Written}
@@ -70,6 +71,9 @@ flatListed a = numberIn (toldListed a)
 
 abbrev pub flatEarliest : Earliest → Reply
 flatEarliest a = numberIn (toldEarliest a)
+
+abbrev pub flatMoment : Moment → Reply
+flatMoment a = numberIn (tellsMoment a)
 
 abbrev pub flatAmount : Amount → Reply
 flatAmount a = numberIn (toldAmount a)

@@ -17,7 +17,7 @@ use model::Sent;
 use model::TailExpired;
 use model::Written;
 ghost use mathlib.Core.Path.{_≡_};
-ghost use Rattle.flat.specs.Replies.{present, timeOf, onlyNumber, yesOrNo, numberIs, flatDone, flatWritten, flatReleased, flatListed, flatEarliest, flatAmount};
+ghost use Rattle.flat.specs.Replies.{present, timeOf, onlyNumber, yesOrNo, numberIs, flatDone, flatWritten, flatReleased, flatListed, flatEarliest, flatMoment, flatAmount};
 ghost use Rattle.flat.specs.Replies.{flatCounted, fragmentOf, noFragment, flatSent, flatFound, noneFreed, flatExpired, flatTail, flatAbandoned};
 
 // ---- numbers, yes and no
@@ -94,6 +94,15 @@ pub fn earliest(a: Earliest) -> Reply
     match a {
         Earliest::Tsn(t) => number(t as u64),
         Earliest::Nothing => only(0),
+    }
+}
+
+pub fn moment(a: Moment) -> Reply
+    ensures { λ r. ⌜ r ≡ flatMoment a ⌝ }
+{
+    match a {
+        Moment::Absent => only(0),
+        Moment::At(time) => number(time),
     }
 }
 

@@ -10,7 +10,7 @@ use Rattle.flat.specs.declared.Reply.{Reply}
 use Rattle.flat.specs.declared.Freed.{Freed}
 use Rattle.flat.specs.declared.Fragment.{Fragment}
 use Rattle.flat.specs.declared.Counts.{Counts}
-use Rattle.flat.specs.Replies.{flatAbandoned, flatAmount, flatCounted, flatDone, flatEarliest, flatExpired, flatFound, flatReleased, flatSent, flatTail, flatWritten, numberIs, onlyNumber, refusalOfFragment, refusalOfFreed, refusalOfReply, yesOrNo}
+use Rattle.flat.specs.Replies.{flatAbandoned, flatAmount, flatCounted, flatDone, flatEarliest, flatExpired, flatFound, flatMoment, flatReleased, flatSent, flatTail, flatWritten, numberIs, onlyNumber, refusalOfFragment, refusalOfFreed, refusalOfReply, yesOrNo}
 use Rattle.flat.specs.Calls.{Makes, Goes, Leans, GoesOrStays, LeansOrStays, doing, Asks, Sums}
 use Rattle.flat_calls.specs.Listing.{Lists}
 use mathlib.Core.List.{_++_}
@@ -21,6 +21,7 @@ use Rattle.model.specs.Streams.{openStream, setReliability, setLow, setHigh, re
 use Rattle.model.specs.Messages.{write}
 use Rattle.model.specs.Rings.{startLifetimes, send, expirePending, expirePendingTail, abandon, expiredInflight, head, bytes}
 use Rattle.model.specs.Flight.{acknowledge, pop, markAll, found, isAbandoned, earliestOutstanding, hasStream}
+use Rattle.sender_asks.specs.Beside.{oldestTsn, ringLeft, nextDeadline}
 use Rattle.outbound_send.specs.Lean.{leanStart, leanSend}
 use Rattle.outbound_abandon.specs.Lean.{leanAbandon}
 use Rattle.outbound_abandon.specs.LeanExpiry.{leanExpire, leanExpireTail}
@@ -161,3 +162,17 @@ BufferedAmountHighThreshold identifier = Asks flatAmount (λ s. amount (find ide
 -- Messages and bytes sent on a stream. Refusal: 3.
 abbrev pub Stats : (identifier : ℕ) → Head → List ℕ → Counts → Type 0
 Stats identifier = Asks flatCounted (λ s. counts (find identifier (s .streams)))
+
+-- ---- questions beside 01's
+
+-- The oldest TSN in flight, acknowledged or abandoned as it may be, where `yes` is set.
+abbrev pub OldestTsn : Head → List ℕ → Reply → Type 0
+OldestTsn = Asks flatEarliest oldestTsn
+
+-- How many more chunks the ring of unordered messages takes, or that of ordered ones.
+abbrev pub RingRoom : Room → (unordered : Bool) → Head → List ℕ → Reply → Type 0
+RingRoom room unordered = Asks numberIs (ringLeft room unordered)
+
+-- The earliest deadline of the chunk at the head and of those in flight that are neither acknowledged nor abandoned, where `yes` is set.
+abbrev pub NextDeadline : Head → List ℕ → Reply → Type 0
+NextDeadline = Asks flatMoment nextDeadline

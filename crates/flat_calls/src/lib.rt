@@ -10,7 +10,7 @@ use sender_head::Head;
 ghost use Rattle.sender_head.specs.Whole.{roomIn};
 ghost use Rattle.flat_calls.specs.Says.{Init, OpenStream, SetReliabilityParams, SetBufferedAmountLowThreshold, SetBufferedAmountHighThreshold, OnBufferReleased, Write, StartTimedMessages, SendNext, ExpirePending, ExpirePendingTail, Abandon};
 ghost use Rattle.flat_calls.specs.Says.{MarkAsAcked, Pop, MarkAllToRetransmit, ExpiredInflight, Get, IsAbandoned, PeekPending, NextMessageId, NextTsn, PendingLen, PendingBytes, InflightLen};
-ghost use Rattle.flat_calls.specs.Says.{InflightBytes, EarliestOutstandingTsn, PendingContainsStream, ContainsStream, BufferedAmount, BufferedAmountLowThreshold, BufferedAmountHighThreshold, Stats};
+ghost use Rattle.flat_calls.specs.Says.{InflightBytes, EarliestOutstandingTsn, PendingContainsStream, ContainsStream, BufferedAmount, BufferedAmountLowThreshold, BufferedAmountHighThreshold, Stats, OldestTsn, RingRoom, NextDeadline};
 
 // A fresh sender, whatever the bytes were: the first chunk takes the TSN `tsn`, the first message the number `number`. The cells stay.
 pub fn init(head: Head, cells: &mut [u64], tsn: u32, number: u64) -> Said
@@ -383,4 +383,28 @@ pub fn stats(head: Head, cells: &[u64], identifier: u16) -> Counts
 {
     let answer = sender_asks::statistics(head, cells, identifier);
     flat::replies::counted(answer)
+}
+
+// The oldest TSN in flight, acknowledged or abandoned as it may be, where `yes` is set.
+pub fn oldest_tsn(head: Head, cells: &[u64]) -> Reply
+    ensures { λ r. ⌜ OldestTsn head (now (cells .entry)) r ⌝ }
+{
+    let answer = sender_asks::beside::oldest_tsn(head, cells);
+    flat::replies::earliest(answer)
+}
+
+// How many more chunks the ring of unordered messages takes, or that of ordered ones.
+pub fn ring_room(head: Head, cells: &[u64], unordered: bool) -> Reply
+    ensures { λ r. ⌜ RingRoom (roomIn (now (cells .entry))) unordered head (now (cells .entry)) r ⌝ }
+{
+    let answer = sender_asks::beside::ring_room(head, cells, unordered);
+    flat::replies::number(answer as u64)
+}
+
+// The earliest deadline of the chunk at the head and of those in flight that are neither acknowledged nor abandoned, where `yes` is set.
+pub fn next_deadline(head: Head, cells: &[u64]) -> Reply
+    ensures { λ r. ⌜ NextDeadline head (now (cells .entry)) r ⌝ }
+{
+    let answer = sender_asks::beside::next_deadline(head, cells);
+    flat::replies::moment(answer)
 }

@@ -147,3 +147,17 @@ BufferedAmountHighThreshold identifier s y = Flat.BufferedAmountHighThreshold id
 -- Messages and bytes sent on a stream. Refusal: 3.
 abbrev pub Stats : (identifier : ℕ) → Sender → Counts → Type 0
 Stats identifier s y = Flat.Stats identifier (s .head) (s .cells) y
+
+-- ---- questions beside 01's
+
+-- The oldest TSN in flight, acknowledged or abandoned as it may be, where `yes` is set.
+abbrev pub OldestTsn : Sender → Reply → Type 0
+OldestTsn s y = Flat.OldestTsn (s .head) (s .cells) y
+
+-- How many more chunks the ring of unordered messages takes, or that of ordered ones.
+abbrev pub RingRoom : (unordered : Bool) → Sender → Reply → Type 0
+RingRoom unordered s y = Flat.RingRoom room01 unordered (s .head) (s .cells) y
+
+-- The earliest deadline of the chunk at the head and of those in flight that are neither acknowledged nor abandoned, where `yes` is set.
+abbrev pub NextDeadline : Sender → Reply → Type 0
+NextDeadline s y = Flat.NextDeadline (s .head) (s .cells) y

@@ -8,7 +8,7 @@ use flat::Reply;
 use sender_head::Head;
 ghost use Rattle.lent.specs.Says.{Init, OpenStream, SetReliabilityParams, SetBufferedAmountLowThreshold, SetBufferedAmountHighThreshold, OnBufferReleased, Write, StartTimedMessages, SendNext, ExpirePending, ExpirePendingTail, Abandon};
 ghost use Rattle.lent.specs.Says.{MarkAsAcked, Pop, MarkAllToRetransmit, ExpiredInflight, Get, IsAbandoned, PeekPending, NextMessageId, NextTsn, PendingLen, PendingBytes, InflightLen};
-ghost use Rattle.lent.specs.Says.{InflightBytes, EarliestOutstandingTsn, PendingContainsStream, ContainsStream, BufferedAmount, BufferedAmountLowThreshold, BufferedAmountHighThreshold, Stats};
+ghost use Rattle.lent.specs.Says.{InflightBytes, EarliestOutstandingTsn, PendingContainsStream, ContainsStream, BufferedAmount, BufferedAmountLowThreshold, BufferedAmountHighThreshold, Stats, OldestTsn, RingRoom, NextDeadline};
 
 // 64 streams, and 256 slots in each ring and in the flight.
 #[repr(C)]
@@ -342,4 +342,30 @@ pub extern "C" fn girdermoth_stats(s: &Sender, identifier: u16) -> Counts
     ensures { λ r. ⌜ Stats identifier (now (s .entry)) r ⌝ }
 {
     flat_calls::stats(s.head, &s.cells, identifier)
+}
+
+// ---- questions beside 01's
+
+// The oldest TSN in flight, acknowledged or abandoned as it may be, where `yes` is set.
+#[no_mangle]
+pub extern "C" fn girdermoth_oldest_tsn(s: &Sender) -> Reply
+    ensures { λ r. ⌜ OldestTsn (now (s .entry)) r ⌝ }
+{
+    flat_calls::oldest_tsn(s.head, &s.cells)
+}
+
+// How many more chunks the ring of unordered messages takes, or that of ordered ones.
+#[no_mangle]
+pub extern "C" fn girdermoth_ring_room(s: &Sender, unordered: bool) -> Reply
+    ensures { λ r. ⌜ RingRoom unordered (now (s .entry)) r ⌝ }
+{
+    flat_calls::ring_room(s.head, &s.cells, unordered)
+}
+
+// The earliest deadline of the chunk at the head and of those in flight that are neither acknowledged nor abandoned, where `yes` is set.
+#[no_mangle]
+pub extern "C" fn girdermoth_next_deadline(s: &Sender) -> Reply
+    ensures { λ r. ⌜ NextDeadline (now (s .entry)) r ⌝ }
+{
+    flat_calls::next_deadline(s.head, &s.cells)
 }
