@@ -121,7 +121,7 @@ fn list_all(
 }
 
 // The least deadline of the entries that are not abandoned.
-pub fn least_deadline(ring: Ring, cells: &[u64]) -> u64
+fn least_deadline(ring: Ring, cells: &[u64]) -> u64
     ensures { λ r. ⌜ r ≡ leastDue (held ring (now (cells .entry))) ⌝ }
 {
     let n = ring::count(ring, cells);
