@@ -54,8 +54,11 @@ int main(int argc, char **argv) {
         want(memcmp(&r, &q, sizeof r) == 0, "two replies", call);
         want(same_head(&s->head, &g->s.head) && memcmp(s->cells, g->s.cells, sizeof s->cells) == 0, "two senders", call);
         want(memcmp(l, m, x.room * 4) == 0, "two lists", call);
-        if (call == CALL_expired_inflight && !r.part[0]) was->head.due = s->head.due;   // it may store another bound of the deadlines, and nothing else
-        if (asks(call) || call == CALL_expired_inflight) want(memcmp(s, was, sizeof *s) == 0, "a question wrote", call);
+        if (asks(call)) want(memcmp(s, was, sizeof *s) == 0, "a question wrote", call);
+        if (call == CALL_expired_inflight && !r.part[0]) {
+            was->head.due = s->head.due;   // it may store another bound of the deadlines
+            want(same_head(&s->head, &was->head) && memcmp(s->cells, was->cells, sizeof s->cells) == 0, "the list wrote more than its bound", call);
+        }
         if (r.part[0]) { for (size_t i = 0; i < x.room; i++) want(l[i] == 7, "a refusal wrote to the list", call); want(same_head(&s->head, &was->head) && memcmp(s->cells, was->cells, sizeof s->cells) == 0, "a refusal wrote", call); }
         for (int i = 0; i < 8; i++) want(g->front[i] == 0xA5A5A5A5A5A5A5A5u && g->back[i] == 0xA5A5A5A5A5A5A5A5u, "a canary", call);
         free(l); free(m);
