@@ -123,18 +123,19 @@ static void questions(void) {
 static void refusals(void) {
     uint32_t list[1];
     fresh(false, GIRDERMOTH_TIMED, 0);
-    WANT(girdermoth_write(&s, 21, 53, UINT64_C(4294967296), 1).refusal == GIRDERMOTH_BEYOND_LIMIT);
-    WANT(girdermoth_write(&s, 21, 53, UINT64_C(4294967295), 1).refusal == GIRDERMOTH_DONE);
+    WANT(girdermoth_write(&s, 21, 53, GIRDERMOTH_OFFSET_MAX + 1, 1).refusal == GIRDERMOTH_BEYOND_LIMIT);
+    WANT(girdermoth_write(&s, 21, 53, GIRDERMOTH_OFFSET_MAX, 1).refusal == GIRDERMOTH_DONE);
     WANT(girdermoth_send_next(&s, GIRDERMOTH_CLOCK_MAX + 1).refusal == GIRDERMOTH_BEYOND_LIMIT && girdermoth_send_next(&s, GIRDERMOTH_CLOCK_MAX).some);
-    WANT(girdermoth_open_stream(&s, 22, 0).refusal == GIRDERMOTH_BAD_BOUNDS && girdermoth_open_stream(&s, 22, 65516).refusal == GIRDERMOTH_BAD_BOUNDS);
+    WANT(girdermoth_open_stream(&s, 22, 0).refusal == GIRDERMOTH_BAD_BOUNDS && girdermoth_open_stream(&s, 22, GIRDERMOTH_PAYLOAD_MAX + 1).refusal == GIRDERMOTH_BAD_BOUNDS);
     WANT(girdermoth_open_stream(&s, 21, 1).refusal == GIRDERMOTH_ALREADY_OPEN && girdermoth_buffered_amount(&s, 22).refusal == GIRDERMOTH_NOT_OPEN);
-    for (uint16_t id = 100; id < 163; id++) WANT(girdermoth_open_stream(&s, id, 65515).refusal == GIRDERMOTH_DONE);
+    for (uint16_t id = 101; id < 100 + GIRDERMOTH_STREAMS; id++) WANT(girdermoth_open_stream(&s, id, GIRDERMOTH_PAYLOAD_MAX).refusal == GIRDERMOTH_DONE);
     WANT(girdermoth_open_stream(&s, 99, 1).refusal == GIRDERMOTH_STREAMS_FULL);
-    WANT(girdermoth_write(&s, 21, 53, 0, 65537).refusal == GIRDERMOTH_MESSAGE_LONG && girdermoth_write(&s, 21, 53, 0, 25601).refusal == GIRDERMOTH_RING_FULL);
+    WANT(girdermoth_write(&s, 21, 53, 0, GIRDERMOTH_MESSAGE_MAX + 1).refusal == GIRDERMOTH_MESSAGE_LONG && girdermoth_write(&s, 21, 53, 0, GIRDERMOTH_MESSAGE_MAX).refusal == GIRDERMOTH_RING_FULL);
+    WANT(girdermoth_write(&s, 21, 53, 0, 100 * GIRDERMOTH_RING_ROOM + 1).refusal == GIRDERMOTH_RING_FULL);
     WANT(girdermoth_expired_inflight(&s, list, 0, GIRDERMOTH_CLOCK_MAX).refusal == GIRDERMOTH_LIST_SHORT);
     WANT(girdermoth_expired_inflight(&s, list, 1, GIRDERMOTH_CLOCK_MAX).value == 1 && list[0] == 7000);
-    WANT(girdermoth_write(&s, 21, 53, 0, 25600).refusal == GIRDERMOTH_DONE);
-    for (int i = 0; i < 254; i++) WANT(girdermoth_send_next(&s, 0).some);
+    WANT(girdermoth_write(&s, 21, 53, 0, 100 * GIRDERMOTH_RING_ROOM).refusal == GIRDERMOTH_DONE);
+    for (int i = 0; i < GIRDERMOTH_FLIGHT_ROOM - 2; i++) WANT(girdermoth_send_next(&s, 0).some);
     WANT(girdermoth_send_next(&s, 0).refusal == GIRDERMOTH_FLIGHT_FULL);
     girdermoth_init(&s, 0, UINT64_MAX);
     girdermoth_open_stream(&s, 21, 1);
@@ -165,7 +166,7 @@ static void timers(void) {
         told = girdermoth_timer_is_expired(&t, place[i], due);
         WANT(told.expired && told.count == 4 && !told.failure && !entry->suppressed);
         // the fields that no call has set mean what they say, too
-        entry->retrans = UINT32_MAX;
+        entry->retrans = GIRDERMOTH_COUNT_MAX;
         told = girdermoth_timer_is_expired(&t, place[i], due);
         WANT(told.refusal == GIRDERMOTH_COUNT_FULL && told.count == 0 && !told.expired && !told.failure);
         *entry = (girdermoth_timer){.deadline = 1000, .maximum = 40, .retrans = 40, .has_deadline = 2, .has_maximum = 4, .suppressed = 8};
@@ -179,7 +180,7 @@ static void timers(void) {
         WANT(!girdermoth_timers_next_timeout(&t).yes);
     }
     t = made;
-    WANT(girdermoth_timers_new(&t, false, 0, false, 0, UINT64_C(4294967296)) == GIRDERMOTH_BEYOND_LIMIT && t.rto_max == 700);
+    WANT(girdermoth_timers_new(&t, false, 0, false, 0, GIRDERMOTH_SETTING_MAX + 1) == GIRDERMOTH_BEYOND_LIMIT && t.rto_max == 700);
     WANT(girdermoth_timer_get(&t, 6).refusal == GIRDERMOTH_BEYOND_LIMIT);
     WANT(girdermoth_timer_set(&t, GIRDERMOTH_ACK, true, GIRDERMOTH_CLOCK_MAX + 1) == GIRDERMOTH_BEYOND_LIMIT && !girdermoth_timer_get(&t, GIRDERMOTH_ACK).yes);
     WANT(girdermoth_timer_set(&t, GIRDERMOTH_ACK, true, GIRDERMOTH_CLOCK_MAX) == GIRDERMOTH_DONE);
