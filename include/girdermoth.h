@@ -225,8 +225,9 @@ girdermoth_counts girdermoth_stats(const girdermoth_sender *s, uint16_t identifi
 girdermoth_reply girdermoth_oldest_tsn(const girdermoth_sender *s);
 // `value` is how many more fragments the ring of unordered messages takes, or that of ordered ones: a message of more is refused with RING_FULL.
 girdermoth_reply girdermoth_ring_room(const girdermoth_sender *s, bool unordered);
-// `value` is the earliest deadline of the chunk at the head and of those in flight that are neither acknowledged nor abandoned, where `yes` is set: a
-// host that has expired all that was due may wait until then. A message whose lifetime has not started has no deadline yet.
+// `value` is the earliest deadline of the chunk at the head and of those in flight that are not abandoned, where `yes` is set: a host that has expired
+// all that was due may wait until then. What is acknowledged counts until it is popped: where such a deadline has passed, wait for the next
+// acknowledgement and do not ask again. A message whose lifetime has not started has no deadline yet.
 girdermoth_reply girdermoth_next_deadline(const girdermoth_sender *s);
 
 // ---- the round-trip estimator: one struct that the caller owns, and lends to each call as it does a sender

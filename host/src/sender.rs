@@ -304,8 +304,9 @@ impl Sender {
         sys::girdermoth_ring_room(&self.0, unordered).value as usize
     }
 
-    /// The earliest deadline of the chunk at the head and of those in flight that are neither acknowledged nor abandoned: a host that has expired
-    /// all that was due may wait until then. A message whose lifetime has not started has no deadline yet.
+    /// The earliest deadline of the chunk at the head and of those in flight that are not abandoned: a host that has expired all that was due may wait
+    /// until then. What is acknowledged counts until it is popped: where such a deadline has passed, wait for the next acknowledgement and do not ask
+    /// again. A message whose lifetime has not started has no deadline yet.
     pub fn next_deadline(&self) -> Option<u64> {
         let reply = sys::girdermoth_next_deadline(&self.0);
         (reply.yes != 0).then_some(reply.value)

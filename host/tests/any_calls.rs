@@ -32,8 +32,8 @@ fn agrees(s: &Sender, oldest: u32) {
     assert_eq!(flight.iter().find(|c| !c.acked && !c.abandoned).map(|c| c.tsn), s.earliest_outstanding_tsn());
     assert_eq!(flight.first().map(|c| c.tsn), s.oldest_tsn());
     assert_eq!(s.ring_room(false) + s.ring_room(true) + s.pending_len(), 2 * RING_ROOM);
-    let outstanding = flight.iter().filter(|c| !c.acked && !c.abandoned);
-    assert_eq!(outstanding.chain(&s.peek_pending()).filter_map(|c| c.deadline).min(), s.next_deadline());
+    let kept = flight.iter().filter(|c| !c.abandoned);
+    assert_eq!(kept.chain(&s.peek_pending()).filter_map(|c| c.deadline).min(), s.next_deadline());
     let mut ends: BTreeMap<u64, usize> = BTreeMap::new();
     for c in &flight {
         assert!(!(c.retransmit && (c.acked || c.abandoned)), "what is settled is not sent again: {c:?}");

@@ -364,10 +364,26 @@ fn the_next_deadline_is_the_earlier_of_the_head_and_the_flight() {
     assert_eq!(s.next_deadline(), Some(50), "the head's, before that in flight");
     s.send_next(30).unwrap();
     s.mark_as_acked(1);
-    assert_eq!(s.next_deadline(), Some(100), "what is acknowledged does not expire");
+    assert_eq!(s.next_deadline(), Some(50), "what is acknowledged counts");
+    s.abandon(1).unwrap();
+    assert_eq!(s.next_deadline(), Some(100), "what is abandoned does not");
     s.abandon(0).unwrap();
     assert_eq!(s.next_deadline(), None);
     s.write(1, PayloadProtocolIdentifier::DCEP, 0, 10).unwrap();
     s.start_timed_messages(40).unwrap();
     assert_eq!(s.next_deadline(), None, "payload type 50 gets none");
+}
+
+#[test]
+fn what_is_acknowledged_keeps_its_deadline_until_it_is_popped_or_abandoned() {
+    for popped in [true, false] {
+        let mut s = timed(0);
+        s.write(1, BINARY, 0, 10).unwrap();
+        s.send_next(0).unwrap();
+        assert_eq!(s.mark_as_acked(0), 10);
+        assert_eq!(s.expired_inflight(200, &mut [0; 4]), Ok(&[][..]), "the deadline has passed, and nothing is to expire");
+        assert_eq!(s.next_deadline(), Some(100));
+        assert!(if popped { s.pop(0).is_some() } else { s.abandon(0).is_some() });
+        assert_eq!(s.next_deadline(), None, "popped: {popped}");
+    }
 }

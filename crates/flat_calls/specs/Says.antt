@@ -173,6 +173,6 @@ OldestTsn = Asks flatEarliest oldestTsn
 abbrev pub RingRoom : Room → (unordered : Bool) → Head → List ℕ → Reply → Type 0
 RingRoom room unordered = Asks numberIs (ringLeft room unordered)
 
--- The earliest deadline of the chunk at the head and of those in flight that are neither acknowledged nor abandoned, where `yes` is set.
+-- The earliest deadline of the chunk at the head and of those in flight that are not abandoned, where `yes` is set.
 abbrev pub NextDeadline : Head → List ℕ → Reply → Type 0
 NextDeadline = Asks flatMoment nextDeadline

@@ -401,7 +401,7 @@ pub fn ring_room(head: Head, cells: &[u64], unordered: bool) -> Reply
     flat::replies::number(answer as u64)
 }
 
-// The earliest deadline of the chunk at the head and of those in flight that are neither acknowledged nor abandoned, where `yes` is set.
+// The earliest deadline of the chunk at the head and of those in flight that are not abandoned, where `yes` is set.
 pub fn next_deadline(head: Head, cells: &[u64]) -> Reply
     ensures { λ r. ⌜ NextDeadline head (now (cells .entry)) r ⌝ }
 {

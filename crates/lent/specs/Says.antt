@@ -158,6 +158,6 @@ OldestTsn s y = Flat.OldestTsn (s .head) (s .cells) y
 abbrev pub RingRoom : (unordered : Bool) → Sender → Reply → Type 0
 RingRoom unordered s y = Flat.RingRoom room01 unordered (s .head) (s .cells) y
 
--- The earliest deadline of the chunk at the head and of those in flight that are neither acknowledged nor abandoned, where `yes` is set.
+-- The earliest deadline of the chunk at the head and of those in flight that are not abandoned, where `yes` is set.
 abbrev pub NextDeadline : Sender → Reply → Type 0
 NextDeadline s y = Flat.NextDeadline (s .head) (s .cells) y

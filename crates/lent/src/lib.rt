@@ -362,7 +362,7 @@ pub extern "C" fn girdermoth_ring_room(s: &Sender, unordered: bool) -> Reply
     flat_calls::ring_room(s.head, &s.cells, unordered)
 }
 
-// The earliest deadline of the chunk at the head and of those in flight that are neither acknowledged nor abandoned, where `yes` is set.
+// The earliest deadline of the chunk at the head and of those in flight that are not abandoned, where `yes` is set.
 #[no_mangle]
 pub extern "C" fn girdermoth_next_deadline(s: &Sender) -> Reply
     ensures { λ r. ⌜ NextDeadline (now (s .entry)) r ⌝ }

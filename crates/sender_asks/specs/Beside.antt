@@ -1,7 +1,7 @@
 -- Questions beside 01's, which hosts missed: what each answers of the model's sender, and what the ways out of each come to. They are no calls of
 -- the model.
 use mathlib.Core.Path.{_≡_, refl, sym, ap, _∙_}
-use mathlib.Core.Bool.{Bool, true, false, not, _||_}
+use mathlib.Core.Bool.{Bool, true, false}
 use mathlib.Core.List.{List, [], _∷_}
 use Prim.Native.Nat.{ℕ, _+_, _-_, _<_, _≤_, min}
 use native.Mathlib.Omega.{arith}
@@ -16,7 +16,7 @@ use Rattle.model.specs.declared.Found.{Found}
 use Rattle.model.specs.Lists.{if_then_else_}
 use Rattle.model.specs.State.{Sender, at, laneOf}
 use Rattle.model.specs.Rings.{head, tsnsOf}
-use Rattle.model.specs.Flight.{found, earliest, outstanding}
+use Rattle.model.specs.Flight.{found, earliest}
 use Rattle.rows.specs.Turns.{read-turn, rest-none}
 use Rattle.chunk_slot.specs.Chunks.{blankChunk}
 
@@ -42,15 +42,15 @@ module _ (t : ℕ) {n : ℕ} where
 abbrev pub ringLeft : Room → (unordered : Bool) → Sender → ℕ
 ringLeft room u s = room .ring - length (at (laneOf u) (s .pending))
 
--- ---- the next deadline: the earlier of the head's and of those in flight that are neither acknowledged nor abandoned, where a missing one is
--- none. An acknowledged entry expires only while chunks of its message are pending, and these are the head's
+-- ---- the next deadline: the earliest of the head's and of those in flight that are not abandoned, where a missing one is none. An acknowledged
+-- entry counts until it is popped
 
 abbrev pub frontDeadline : Found → Moment
 frontDeadline Found.Nothing = Absent
 frontDeadline (Found.One c) = c .message .deadline
 
 unfoldable pub entryDeadline : Chunk → Moment
-entryDeadline c = if outstanding c then c .message .deadline else Absent
+entryDeadline c = if c .abandoned then Absent else c .message .deadline
 
 abbrev pub soonest : List Chunk → Moment
 soonest [] = Absent
@@ -61,20 +61,16 @@ nextDeadline s = earlier (frontDeadline (found (head (s .pending)))) (soonest (s
 
 -- that of an entry, as code finds it out
 module _ (c : Chunk) where
-  abbrev by : (acked abandoned : Bool) → Moment
-  by a g = if not (a || g) then c .message .deadline else Absent
+  abbrev by : (abandoned : Bool) → Moment
+  by g = if g then Absent else c .message .deadline
 
-  pub acked-none : c .acked ≡ true → Absent ≡ entryDeadline c
+  pub abandoned-none : c .abandoned ≡ true → Absent ≡ entryDeadline c
   unfolding entryDeadline
-  acked-none e = sym (ap (λ (a : Bool). by a (c .abandoned)) e)
+  abandoned-none e = sym (ap (λ (g : Bool). by g) e)
 
-  pub abandoned-none : c .acked ≡ false → c .abandoned ≡ true → Absent ≡ entryDeadline c
+  pub other-has : c .abandoned ≡ false → c .message .deadline ≡ entryDeadline c
   unfolding entryDeadline
-  abandoned-none e g = sym (ap (λ (a : Bool). by a (c .abandoned)) e ∙ ap (λ (b : Bool). by false b) g)
-
-  pub outstanding-has : c .acked ≡ false → c .abandoned ≡ false → c .message .deadline ≡ entryDeadline c
-  unfolding entryDeadline
-  outstanding-has e g = sym (ap (λ (a : Bool). by a (c .abandoned)) e ∙ ap (λ (b : Bool). by false b) g)
+  other-has e = sym (ap (λ (g : Bool). by g) e)
 
 -- a loop over the entries `l`, of which the first `i` are read, and `due` is the soonest of these
 

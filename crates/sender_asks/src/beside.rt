@@ -64,13 +64,10 @@ fn front_deadline(front: Found) -> Moment
     message.deadline
 }
 
-// That of an entry which is neither acknowledged nor abandoned.
+// That of an entry, unless it is abandoned.
 fn entry_deadline(chunk: Chunk) -> Moment
     ensures { λ r. ⌜ r ≡ entryDeadline chunk ⌝ }
 {
-    if chunk.acked {
-        return Moment::Absent;
-    }
     if chunk.abandoned {
         return Moment::Absent;
     }

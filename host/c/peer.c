@@ -1,0 +1,124 @@
+// The link and the receiver (peer.h).
+#include "peer.h"
+#include <string.h>
+
+// ---- the link, which loses and doubles so many in a hundred
+
+enum { PACKETS = 2048 };
+static packet under_way[PACKETS];
+static int packets;
+static uint64_t losses, doubles, delay;
+
+void put(packet *p) {
+    for (int copies = 1 + (rnd() % 100 < doubles); copies > 0; copies--)
+        if (rnd() % 100 >= losses && packets < PACKETS) { p->due = now + 5 + rnd() % delay; under_way[packets++] = *p; }
+}
+
+uint64_t next_arrival(void) {
+    uint64_t next = UINT64_MAX;
+    for (int i = 0; i < packets; i++) if (under_way[i].due < next) next = under_way[i].due;
+    return next;
+}
+
+// ---- the receiver: chunks by their TSNs, as far as they are behind the cumulative one (`seen`) or not yet delivered (`held`)
+
+enum { PLACES = 1024 };
+typedef struct { chunk data; bool seen, held; } place;
+static place got[PLACES];
+static uint32_t cumulative, highest;
+static uint16_t next_ssn[STREAMS];
+
+static bool seen(uint32_t tsn) { place *at = &got[tsn % PLACES]; return at->seen && at->data.tsn == tsn; }
+static chunk *held(uint32_t tsn) { place *at = &got[tsn % PLACES]; return at->held && at->data.tsn == tsn ? &at->data : NULL; }
+
+// The message that begins with this TSN, if all of it is there and it is its turn.
+static bool deliver(uint32_t tsn) {
+    uint8_t bytes[LONGEST];
+    size_t length = 0;
+    uint32_t end = tsn;
+    chunk *first = held(tsn);
+    if (!first || !first->beginning || (!first->unordered && first->ssn != next_ssn[first->stream])) return false;
+    for (chunk *c = first;; c = held(++end)) {
+        if (!c || length + c->length > LONGEST) return false;
+        memcpy(bytes + length, c->bytes, c->length);
+        length += c->length;
+        if (c->ending) break;
+    }
+    delivered(first->stream, bytes, length);
+    next_ssn[first->stream] += !first->unordered;
+    for (uint32_t t = tsn; t != end + 1; t++) got[t % PLACES].held = false;
+    return true;
+}
+
+// All that can be, from a TSN on; of a stream, later SSNs have later TSNs.
+static bool deliver_from(uint32_t tsn) {
+    bool any = false;
+    for (; !after(tsn, highest); tsn++) any |= deliver(tsn);
+    return any;
+}
+
+static void take_data(const chunk *c) {
+    uint32_t tsn = c->tsn;
+    if (!after(tsn, cumulative) || seen(tsn)) return;
+    got[tsn % PLACES] = (place){.data = *c, .seen = true, .held = true};
+    if (after(tsn, highest)) highest = tsn;
+    while (!held(tsn)->beginning && held(tsn - 1)) tsn--;
+    if (deliver(tsn)) deliver_from(tsn);
+}
+
+// RFC 3758, 3.6: what is complete up to each pair's SSN is delivered, the rest up to the new cumulative TSN is thrown away.
+static void take_forward(const packet *p) {
+    if (!after(p->cumulative, cumulative)) return;
+    if (after(p->cumulative, highest)) highest = p->cumulative;
+    for (int i = 0; i < p->count; i++) {
+        uint16_t *next = &next_ssn[p->pairs[i][0]];
+        while ((int16_t)(p->pairs[i][1] - *next) >= 0) if (!deliver_from(cumulative - PLACES / 2)) ++*next;
+    }
+    deliver_from(cumulative - PLACES / 2);
+    for (uint32_t t = p->cumulative - PLACES / 2; !after(t, p->cumulative); t++) if (held(t)) got[t % PLACES].held = false;
+    cumulative = p->cumulative;
+}
+
+static void acknowledge(void) {
+    packet sack = {.kind = SACK, .cumulative = cumulative};
+    for (uint32_t t = cumulative + 1; !after(t, highest) && sack.count < BLOCKS; t++) {
+        if (!seen(t)) continue;
+        uint16_t at = (uint16_t)(t - cumulative);
+        if (sack.count && sack.pairs[sack.count - 1][1] == at - 1) sack.pairs[sack.count - 1][1] = at;
+        else { sack.pairs[sack.count][0] = sack.pairs[sack.count][1] = at; sack.count++; }
+    }
+    put(&sack);
+}
+
+static void receive(const packet *p) {
+    if (p->kind == DATA) take_data(&p->data); else take_forward(p);
+    while (seen(cumulative + 1)) cumulative++;
+    acknowledge();
+}
+
+// ---- a session
+
+uint32_t begin_peer(void) {
+    losses = rnd() % 35;
+    doubles = rnd() % 15;
+    delay = 1 + rnd() % 60;
+    packets = 0;
+    uint32_t first = rnd() % 3 ? (uint32_t)rnd() : -(uint32_t)(rnd() % 300);
+    cumulative = highest = first - 1;
+    memset(got, 0, sizeof got);
+    memset(next_ssn, 0, sizeof next_ssn);
+    return first;
+}
+
+bool next_sack(packet *p) {
+    for (int i = 0; i < packets;) {
+        if (under_way[i].due > now) { i++; continue; }
+        *p = under_way[i];
+        under_way[i] = under_way[--packets];
+        if (p->kind == SACK) return true;
+        receive(p);
+    }
+    return false;
+}
+
+uint32_t cumulative_tsn(void) { return cumulative; }

@@ -1,0 +1,21 @@
+// The other end of a session: a link that loses, doubles and reorders packets, and a small receiver with the rules of RFC 9260 and RFC 3758.
+#ifndef PEER_H
+#define PEER_H
+#include "trial.h"
+
+enum { BLOCKS = 16 };
+enum { DATA = 0, SACK = 3, FORWARD = 192 };
+
+typedef struct { uint32_t tsn; uint16_t stream, ssn, length; bool unordered, beginning, ending; uint8_t bytes[PAYLOAD]; } chunk;
+
+// The pairs of a SACK are its gap blocks, those of a FORWARD-TSN streams with their last SSNs. The link sets when it arrives.
+typedef struct { uint64_t due; int kind; chunk data; uint32_t cumulative; int count; uint16_t pairs[BLOCKS][2]; } packet;
+
+static inline bool after(uint32_t a, uint32_t b) { return (int32_t)(a - b) > 0; }
+
+uint32_t begin_peer(void);   // the first TSN of the session; the link gets other losses, doubles and delays
+void put(packet *p);
+uint64_t next_arrival(void);   // UINT64_MAX where nothing is under way
+bool next_sack(packet *p);   // one that has arrived at the host; the receiver takes in what has arrived there
+uint32_t cumulative_tsn(void);
+#endif
