@@ -21,37 +21,37 @@ ghost use Prim.Native.Nat.{_≤_};
 
 fn done(out: &mut [u8], at: usize, answer: Done) -> usize {
     match answer {
-        Done::Done => super::done(out, at),
-        Done::Refused(n) => super::refusal(out, at, n),
+        Done::Done => lines::done(out, at),
+        Done::Refused(n) => lines::refusal(out, at, n),
     }
 }
 
 fn written(out: &mut [u8], at: usize, length: u64, answer: Written) -> usize {
     match answer {
         Written::Accepted(high) => {
-            let p1 = super::number(out, at, b"ok len=", length);
-            let p2 = super::flag(out, p1, b" high=", high);
-            super::line(out, p2)
+            let p1 = lines::number(out, at, b"ok len=", length);
+            let p2 = lines::flag(out, p1, b" high=", high);
+            lines::line(out, p2)
         }
-        Written::Refused(n) => super::refusal(out, at, n),
+        Written::Refused(n) => lines::refusal(out, at, n),
     }
 }
 
 fn released(out: &mut [u8], at: usize, answer: Released) -> usize {
     match answer {
         Released::Told(low) => {
-            let p1 = super::flag(out, at, b"ok low=", low);
-            super::line(out, p1)
+            let p1 = lines::flag(out, at, b"ok low=", low);
+            lines::line(out, p1)
         }
-        Released::Refused(n) => super::refusal(out, at, n),
+        Released::Refused(n) => lines::refusal(out, at, n),
     }
 }
 
 fn sent(out: &mut [u8], at: usize, answer: Sent) -> usize {
     match answer {
         Sent::Yielded(tsn, chunk) => super::chunk(out, at, tsn, chunk),
-        Sent::Nothing => super::none(out, at),
-        Sent::Refused(n) => super::refusal(out, at, n),
+        Sent::Nothing => lines::none(out, at),
+        Sent::Refused(n) => lines::refusal(out, at, n),
     }
 }
 
@@ -62,13 +62,13 @@ fn expired(out: &mut [u8], at: usize, answer: Expired) -> usize {
             unordered,
             bytes,
         } => {
-            let p1 = super::number(out, at, b"sid=", stream as u64);
-            let p2 = super::flag(out, p1, b" u=", unordered);
-            let p3 = super::number(out, p2, b" bytes=", bytes);
-            super::line(out, p3)
+            let p1 = lines::number(out, at, b"sid=", stream as u64);
+            let p2 = lines::flag(out, p1, b" u=", unordered);
+            let p3 = lines::number(out, p2, b" bytes=", bytes);
+            lines::line(out, p3)
         }
-        Expired::Nothing => super::none(out, at),
-        Expired::Refused(n) => super::refusal(out, at, n),
+        Expired::Nothing => lines::none(out, at),
+        Expired::Refused(n) => lines::refusal(out, at, n),
     }
 }
 
@@ -79,48 +79,48 @@ fn tail_expired(out: &mut [u8], at: usize, answer: TailExpired) -> usize {
             number,
             bytes,
         } => {
-            let p1 = super::number(out, at, b"sid=", stream as u64);
-            let p2 = super::number(out, p1, b" msg=", number);
-            let p3 = super::number(out, p2, b" bytes=", bytes);
-            super::line(out, p3)
+            let p1 = lines::number(out, at, b"sid=", stream as u64);
+            let p2 = lines::number(out, p1, b" msg=", number);
+            let p3 = lines::number(out, p2, b" bytes=", bytes);
+            lines::line(out, p3)
         }
-        TailExpired::Nothing => super::none(out, at),
-        TailExpired::Refused(n) => super::refusal(out, at, n),
+        TailExpired::Nothing => lines::none(out, at),
+        TailExpired::Refused(n) => lines::refusal(out, at, n),
     }
 }
 
 fn abandoned(out: &mut [u8], at: usize, answer: Abandoned) -> usize {
     match answer {
         Abandoned::Message { stream, bytes } => {
-            let p1 = super::number(out, at, b"sid=", stream as u64);
-            let p2 = super::number(out, p1, b" bytes=", bytes);
-            super::line(out, p2)
+            let p1 = lines::number(out, at, b"sid=", stream as u64);
+            let p2 = lines::number(out, p1, b" bytes=", bytes);
+            lines::line(out, p2)
         }
-        Abandoned::Nothing => super::none(out, at),
+        Abandoned::Nothing => lines::none(out, at),
     }
 }
 
 fn found(out: &mut [u8], at: usize, tsn: u32, answer: Found) -> usize {
     match answer {
         Found::One(chunk) => super::chunk(out, at, tsn, chunk),
-        Found::Nothing => super::none(out, at),
+        Found::Nothing => lines::none(out, at),
     }
 }
 
 fn number(out: &mut [u8], at: usize, n: u64) -> usize {
-    let p1 = super::number(out, at, b"", n);
-    super::line(out, p1)
+    let p1 = lines::number(out, at, b"", n);
+    lines::line(out, p1)
 }
 
 fn yes_no(out: &mut [u8], at: usize, yes: bool) -> usize {
-    let p1 = super::flag(out, at, b"", yes);
-    super::line(out, p1)
+    let p1 = lines::flag(out, at, b"", yes);
+    lines::line(out, p1)
 }
 
 fn earliest(out: &mut [u8], at: usize, answer: Earliest) -> usize {
     match answer {
         Earliest::Tsn(tsn) => number(out, at, tsn as u64),
-        Earliest::Nothing => super::none(out, at),
+        Earliest::Nothing => lines::none(out, at),
     }
 }
 
@@ -151,7 +151,7 @@ fn asked_tsn(query: Query) -> u64 {
 // What stands in front of a number that a call answers.
 fn labelled(out: &mut [u8], at: usize, call: Call) -> usize {
     if let Call::Acknowledge { tsn: _ } = call {
-        return super::text(out, at, b"bytes=");
+        return lines::text(out, at, b"bytes=");
     }
     at
 }
@@ -169,7 +169,7 @@ fn said(out: &mut [u8], at: usize, given: u64, answer: Answer) -> usize {
         Answer::ToSeek(says) => earliest(out, at, says),
         Answer::Number(n) => number(out, at, n),
         Answer::YesNo(yes) => yes_no(out, at, yes),
-        _ => super::bad(out, at),
+        _ => lines::bad(out, at),
     }
 }
 
@@ -181,7 +181,7 @@ fn wide(tsn: u32) -> u64 {
 
 fn tsn_at(out: &mut [u8], at: usize, list: &[u32], i: usize) -> usize {
     if i < list.len() {
-        return super::number(out, at, b" ", wide(list[i]));
+        return lines::number(out, at, b" ", wide(list[i]));
     }
     at
 }
@@ -208,11 +208,11 @@ fn listed(
     let answer = found.answer;
     match answer {
         Listed::Count(count) => {
-            let place = super::number(out, at, b"n=", count as u64);
+            let place = lines::number(out, at, b"n=", count as u64);
             let behind = tsns(out, place, list, count);
-            super::line(out, behind)
+            lines::line(out, behind)
         }
-        Listed::Refused(n) => super::refusal(out, at, n),
+        Listed::Refused(n) => lines::refusal(out, at, n),
     }
 }
 
@@ -246,7 +246,7 @@ pub fn stream(h: Head, cells: &[u64], out: &mut [u8], at: usize, identifier: u16
     let place = stream_table::find(h.streams, &cells[0..k], identifier);
     match place {
         Place::At(_, found) => super::stream(out, at, found),
-        Place::Nothing => super::refusal(out, at, limits::NOT_OPEN),
+        Place::Nothing => lines::refusal(out, at, limits::NOT_OPEN),
     }
 }
 
@@ -285,23 +285,23 @@ pub fn set_buffered(
                 place,
                 with_buffered(old, amount),
             );
-            super::done(out, at)
+            lines::done(out, at)
         }
-        Place::Nothing => super::refusal(out, at, limits::NOT_OPEN),
+        Place::Nothing => lines::refusal(out, at, limits::NOT_OPEN),
     }
 }
 
 pub fn counts(h: Head, cells: &[u64], out: &mut [u8], at: usize, label: &[u8]) -> usize {
-    let p1 = super::number(out, at, label, sender_asks::pending_length(h, cells) as u64);
-    let p2 = super::number(out, p1, b" pbytes=", sender_asks::pending_bytes(h));
-    let p3 = super::number(
+    let p1 = lines::number(out, at, label, sender_asks::pending_length(h, cells) as u64);
+    let p2 = lines::number(out, p1, b" pbytes=", sender_asks::pending_bytes(h));
+    let p3 = lines::number(
         out,
         p2,
         b" flen=",
         sender_asks::inflight_length(h, cells) as u64,
     );
-    let p4 = super::number(out, p3, b" fbytes=", sender_asks::inflight_bytes(h));
-    super::line(out, p4)
+    let p4 = lines::number(out, p3, b" fbytes=", sender_asks::inflight_bytes(h));
+    lines::line(out, p4)
 }
 
 // What a call answered.

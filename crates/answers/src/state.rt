@@ -9,14 +9,14 @@ fn under_way(h: Head, cells: &[u64], out: &mut [u8], at: usize) -> usize {
     if h.queue.pending.selected != 0 {
         let front = sender_asks::peek_pending(h, cells);
         if let Found::One(chunk) = front {
-            return super::number(out, at, b" underway=", chunk.message.number);
+            return lines::number(out, at, b" underway=", chunk.message.number);
         }
     }
-    super::text(out, at, b" underway=-")
+    lines::text(out, at, b" underway=-")
 }
 
 fn stream_at(out: &mut [u8], at: usize, table: &[u64], i: usize) -> usize {
-    let place = super::text(out, at, b"stream ");
+    let place = lines::text(out, at, b"stream ");
     super::stream(out, place, stream_table::slot::load(table, i))
 }
 
@@ -48,7 +48,7 @@ fn chunks(
     let mut place = at;
     let mut i = 0;
     while i < count {
-        place = super::text(out, place, label);
+        place = lines::text(out, place, label);
         place = super::chunk(out, place, tsn, ring::nth(ring, cells, i));
         tsn = std::num::wrapping_add_u32(tsn, gap);
         i += 1;
@@ -87,9 +87,9 @@ fn rings(h: Head, cells: &[u64], out: &mut [u8], at: usize) -> usize {
 fn numbers(h: Head, cells: &[u64], out: &mut [u8], at: usize) -> usize {
     let next_tsn = sender_asks::next_tsn(h, cells);
     let unseen = h.queue.next_unstarted_message_id;
-    let p1 = super::number(out, at, b"sender next_tsn=", next_tsn as u64);
-    let p2 = super::number(out, p1, b" next_msg=", sender_asks::next_message(h));
-    let p3 = super::number(out, p2, b" next_unseen=", unseen);
+    let p1 = lines::number(out, at, b"sender next_tsn=", next_tsn as u64);
+    let p2 = lines::number(out, p1, b" next_msg=", sender_asks::next_message(h));
+    let p3 = lines::number(out, p2, b" next_unseen=", unseen);
     under_way(h, cells, out, p3)
 }
 

@@ -1,12 +1,12 @@
 // A script of calls from standard input, run on the sender, the timers and the estimator: a line of answers for each, as the Rust's own
 // driver writes them. What a line means is `script`'s, what is written `answers`' and its neighbours'.
 use calls::Call;
+use clock_calls::RtoCall;
+use clock_calls::TimerCall;
 use rto::Made;
 use rto::RtoManager;
 use script::Line;
 use script::commands::Command;
-use script::commands::RtoCall;
-use script::commands::TimerCall;
 use sender_head::Head;
 use timer::Maximum;
 use timer::TimerTable;
@@ -32,7 +32,7 @@ fn sender_part(world: World, cells: &[u64], out: &mut [u8], wanted: bool, at: us
 fn timers_part(world: World, out: &mut [u8], wanted: bool, at: usize) -> usize {
     if wanted {
         let table = world.table;
-        return clock_answers::timers_state(table, out, at);
+        return clock_calls::timers_state(table, out, at);
     }
     at
 }
@@ -40,7 +40,7 @@ fn timers_part(world: World, out: &mut [u8], wanted: bool, at: usize) -> usize {
 fn rto_part(world: World, out: &mut [u8], wanted: bool, at: usize) -> usize {
     if wanted {
         let manager = world.manager;
-        return answers::estimate(out, at, manager);
+        return clock_calls::estimate(out, at, manager);
     }
     at
 }
@@ -56,7 +56,7 @@ fn state(
     let p1 = sender_part(world, cells, out, sender, world.at);
     let p2 = timers_part(world, out, timers, p1);
     let p3 = rto_part(world, out, rto, p2);
-    answers::text(out, p3, b"end\n")
+    lines::text(out, p3, b"end\n")
 }
 
 // ---- a line
@@ -80,7 +80,7 @@ fn stepped(h: Head, cells: &mut [u64], out: &mut [u8], at: usize, call: Call) ->
 // What is asked of the sender alone, and a line that is no call.
 fn asked(h: Head, cells: &mut [u64], out: &mut [u8], at: usize, command: Command) -> usize {
     match command {
-        Command::Bad => answers::bad(out, at),
+        Command::Bad => lines::bad(out, at),
         Command::List { clock } => answers::sender::expired_within(h, cells, out, at, clock, 256),
         Command::ListWithin { clock, room } => {
             answers::sender::expired_within(h, cells, out, at, clock, room)
@@ -98,7 +98,7 @@ fn sender_call(h: Head, cells: &mut [u64], out: &mut [u8], at: usize, command: C
     match command {
         Command::Sender { tsn, number } => Sender {
             head: sender_head::new(tsn, number),
-            at: answers::done(out, at),
+            at: lines::done(out, at),
         },
         Command::Run(call) => stepped(h, cells, out, at, call),
         _ => Sender {
@@ -143,14 +143,14 @@ fn with_manager(world: World, manager: RtoManager, at: usize) -> World {
 
 fn timers_call(world: World, out: &mut [u8], call: TimerCall) -> World {
     let table = world.table;
-    let after = clock_answers::clock_call(table, out, world.at, call);
+    let after = clock_calls::clock_call(table, out, world.at, call);
     let changed = after.table;
     with_table(world, changed, after.at)
 }
 
 fn rto_call(world: World, out: &mut [u8], call: RtoCall) -> World {
     let manager = world.manager;
-    let after = clock_answers::estimate_call(manager, out, world.at, call);
+    let after = clock_calls::estimate_call(manager, out, world.at, call);
     let changed = after.manager;
     with_manager(world, changed, after.at)
 }
@@ -260,7 +260,7 @@ fn last_line(reading: Reading, cells: &mut [u64], out: &mut [u8]) {
     let line = reading.line;
     let world = reading.world;
     let after = run(world, cells, out, script::finish(line));
-    answers::flush(out, after.at);
+    lines::flush(out, after.at);
 }
 
 // A proved loop has to end, and nothing says that the input does: the blocks are counted down from a number that no run uses up.

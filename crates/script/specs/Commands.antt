@@ -12,8 +12,8 @@ use Rattle.timer.specs.Entries.{order}
 use Rattle.coded_calls.specs.Coded.{plainOf}
 use Rattle.words.specs.declared.Token.{Token}
 use Rattle.words.specs.Tokens.{codeOf}
-use Rattle.script.specs.declared.commands.TimerCall.{TimerCall}
-use Rattle.script.specs.declared.commands.RtoCall.{RtoCall}
+use Rattle.clock_calls.specs.declared.TimerCall.{TimerCall}
+use Rattle.clock_calls.specs.declared.RtoCall.{RtoCall}
 use Rattle.script.specs.declared.commands.Command.{Command}
 use Rattle.script.specs.declared.arguments.Words.{Words}
 use Rattle.script.specs.Table.{rowOf}

@@ -9,8 +9,8 @@ use Rattle.timer.specs.declared.Timer.{Timer}
 use Rattle.timer.specs.declared.Maximum.{Maximum}
 use Rattle.calls.specs.declared.Call.{Call}
 use Rattle.calls.specs.declared.Query.{Query}
-use Rattle.script.specs.declared.commands.TimerCall.{TimerCall}
-use Rattle.script.specs.declared.commands.RtoCall.{RtoCall}
+use Rattle.clock_calls.specs.declared.TimerCall.{TimerCall}
+use Rattle.clock_calls.specs.declared.RtoCall.{RtoCall}
 use Rattle.script.specs.declared.commands.Command.{Command}
 use Rattle.script.specs.Table.{letters}
 use Rattle.script.specs.Meaning.{lineMeans}

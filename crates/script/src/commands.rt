@@ -2,65 +2,14 @@
 // here.
 use super::arguments::Words;
 use calls::Call;
+use clock_calls::RtoCall;
+use clock_calls::TimerCall;
 use limits::Moment;
 use timer::Maximum;
 use timer::Timer;
 use words::Token;
 ghost use mathlib.Core.Path.{_≡_};
 ghost use Rattle.script.specs.Commands.{ownOf, timerOf, maximumOf, momentOf, clockOf, estimateOf, madeOf, commandIn};
-
-// The calls of the timers; `SetCount` is the script's own.
-pub enum TimerCall {
-    Make {
-        init: Maximum,
-        data: Maximum,
-        longest: u64,
-    },
-    Set {
-        timer: Timer,
-        time: Moment,
-    },
-    Get {
-        timer: Timer,
-    },
-    NextTimeout,
-    Start {
-        timer: Timer,
-        clock: u64,
-        interval: u64,
-    },
-    Restart {
-        timer: Timer,
-        clock: u64,
-        interval: u64,
-    },
-    Stop {
-        timer: Timer,
-    },
-    Reset {
-        timer: Timer,
-    },
-    Suppress {
-        timer: Timer,
-    },
-    IsExpired {
-        timer: Timer,
-        clock: u64,
-    },
-    SetCount {
-        timer: Timer,
-        count: u32,
-    },
-}
-
-// The calls of the estimator.
-pub enum RtoCall {
-    Make { initial: u64, least: u64, most: u64 },
-    Measure { rtt: u64 },
-    Reset,
-    Set { rto: u64, kept: bool },
-    Get,
-}
 
 // What a line is; `SetBuffered` is the script's own. `Blank` has no word and gets no answer; `Bad` is no call. `List` asks for the expired TSNs; `ListWithin` names the room of that list.
 pub enum Command {

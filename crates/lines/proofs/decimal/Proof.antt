@@ -4,8 +4,8 @@ use Prim.Native.Nat.{_≤_}
 use native.Mathlib.Omega.{arith}
 use lib.ListN.{length, length-set}
 use borrow.Author.Needs.{needs}
-use Rattle.answers.proofs.decimal.Statement.{statement}
-use Rattle.answers.proofs.decimal.Tie as tie
+use Rattle.lines.proofs.decimal.Statement.{statement}
+use Rattle.lines.proofs.decimal.Tie as tie
 
 abbrev Inv-loop : tie.InvT-loop
 Inv-loop out₀ at n digits₀ rest₀ i₀ out digits rest i = (i ≤ 20) × (length digits ≡ 20) × (length out ≡ length out₀)

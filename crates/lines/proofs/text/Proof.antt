@@ -4,8 +4,8 @@ use Prim.Native.Nat.{_-_, _≤_}
 use native.Mathlib.Omega.{arith}
 use lib.ListN.{length}
 use borrow.Author.Needs.{needs}
-use Rattle.answers.proofs.text.Statement.{statement}
-use Rattle.answers.proofs.text.Tie as tie
+use Rattle.lines.proofs.text.Statement.{statement}
+use Rattle.lines.proofs.text.Tie as tie
 
 abbrev Inv-loop : tie.InvT-loop
 Inv-loop out₀ at words place₀ i₀ out place i = (i ≤ length words) × (length out ≡ length out₀)

@@ -1,17 +1,69 @@
-// What the calls of the timers and of the estimator answer in a script, written into the buffer of answers.
+// The calls of the timers and of the estimator in a script: as values, made, and answered by lines in a lent buffer.
 use limits::Moment;
 use rto::Made;
 use rto::Measured;
 use rto::RtoManager;
 use rto::Set;
-use script::commands::RtoCall;
-use script::commands::TimerCall;
 use timer::Answer;
 use timer::Changed;
+use timer::Entry;
 use timer::Expiry;
 use timer::Maximum;
 use timer::Timer;
 use timer::TimerTable;
+
+// The calls of the timers; `SetCount` is the script's own.
+pub enum TimerCall {
+    Make {
+        init: Maximum,
+        data: Maximum,
+        longest: u64,
+    },
+    Set {
+        timer: Timer,
+        time: Moment,
+    },
+    Get {
+        timer: Timer,
+    },
+    NextTimeout,
+    Start {
+        timer: Timer,
+        clock: u64,
+        interval: u64,
+    },
+    Restart {
+        timer: Timer,
+        clock: u64,
+        interval: u64,
+    },
+    Stop {
+        timer: Timer,
+    },
+    Reset {
+        timer: Timer,
+    },
+    Suppress {
+        timer: Timer,
+    },
+    IsExpired {
+        timer: Timer,
+        clock: u64,
+    },
+    SetCount {
+        timer: Timer,
+        count: u32,
+    },
+}
+
+// The calls of the estimator.
+pub enum RtoCall {
+    Make { initial: u64, least: u64, most: u64 },
+    Measure { rtt: u64 },
+    Reset,
+    Set { rto: u64, kept: bool },
+    Get,
+}
 
 // The timers after a call, and the place behind its answer.
 pub struct Timers {
@@ -28,8 +80,8 @@ pub struct Estimator {
 
 fn changed(out: &mut [u8], at: usize, answer: Answer) -> usize {
     match answer {
-        Answer::Done => answers::done(out, at),
-        Answer::Refused(n) => answers::refusal(out, at, n),
+        Answer::Done => lines::done(out, at),
+        Answer::Refused(n) => lines::refusal(out, at, n),
     }
 }
 
@@ -40,18 +92,18 @@ fn told(out: &mut [u8], at: usize, answer: Expiry) -> usize {
             failure,
             count,
         } => {
-            let p1 = answers::flag(out, at, b"expired=", expired);
-            let p2 = answers::flag(out, p1, b" failure=", failure);
-            let p3 = answers::number(out, p2, b" count=", count as u64);
-            answers::line(out, p3)
+            let p1 = lines::flag(out, at, b"expired=", expired);
+            let p2 = lines::flag(out, p1, b" failure=", failure);
+            let p3 = lines::number(out, p2, b" count=", count as u64);
+            lines::line(out, p3)
         }
-        Expiry::Refused(n) => answers::refusal(out, at, n),
+        Expiry::Refused(n) => lines::refusal(out, at, n),
     }
 }
 
 fn deadline(out: &mut [u8], at: usize, time: Moment) -> usize {
-    let place = answers::moment(out, at, b"", time);
-    answers::line(out, place)
+    let place = lines::moment(out, at, b"", time);
+    lines::line(out, place)
 }
 
 // The poke of the script: the count alone changes.
@@ -164,11 +216,11 @@ fn made_estimator(old: RtoManager, out: &mut [u8], at: usize, made: Made) -> Est
     match made {
         Made::Ready(manager) => Estimator {
             manager: manager,
-            at: answers::done(out, at),
+            at: lines::done(out, at),
         },
         Made::Refused(n) => Estimator {
             manager: old,
-            at: answers::refusal(out, at, n),
+            at: lines::refusal(out, at, n),
         },
     }
 }
@@ -176,15 +228,15 @@ fn made_estimator(old: RtoManager, out: &mut [u8], at: usize, made: Made) -> Est
 fn measured(old: RtoManager, out: &mut [u8], at: usize, answer: Measured) -> Estimator {
     match answer {
         Measured::Srtt(srtt, manager) => {
-            let p1 = answers::number(out, at, b"srtt=", srtt);
+            let p1 = lines::number(out, at, b"srtt=", srtt);
             Estimator {
                 manager: manager,
-                at: answers::line(out, p1),
+                at: lines::line(out, p1),
             }
         }
         Measured::Refused(n) => Estimator {
             manager: old,
-            at: answers::refusal(out, at, n),
+            at: lines::refusal(out, at, n),
         },
     }
 }
@@ -193,11 +245,11 @@ fn set_estimator(old: RtoManager, out: &mut [u8], at: usize, answer: Set) -> Est
     match answer {
         Set::Kept(manager) => Estimator {
             manager: manager,
-            at: answers::done(out, at),
+            at: lines::done(out, at),
         },
         Set::Refused(n) => Estimator {
             manager: old,
-            at: answers::refusal(out, at, n),
+            at: lines::refusal(out, at, n),
         },
     }
 }
@@ -212,33 +264,86 @@ pub fn estimate_call(old: RtoManager, out: &mut [u8], at: usize, call: RtoCall) 
         RtoCall::Measure { rtt } => measured(old, out, at, old.set_new_rtt(rtt)),
         RtoCall::Reset => Estimator {
             manager: old.reset(),
-            at: answers::done(out, at),
+            at: lines::done(out, at),
         },
         RtoCall::Set { rto, kept } => set_estimator(old, out, at, old.set_rto(rto, kept)),
         RtoCall::Get => Estimator {
             manager: old,
-            at: answers::estimate(out, at, old),
+            at: estimate(out, at, old),
         },
     }
 }
 
 // ---- the whole state
 
+fn maximum(out: &mut [u8], at: usize, most: Maximum) -> usize {
+    match most {
+        Maximum::Unlimited => lines::text(out, at, b" max=-"),
+        Maximum::Of(n) => lines::number(out, at, b" max=", n),
+    }
+}
+
+fn entry(out: &mut [u8], at: usize, name: &[u8], entry: Entry) -> usize {
+    let deadline = entry.deadline;
+    let most = entry.maximum;
+    let p1 = lines::text(out, at, name);
+    let p2 = lines::moment(out, p1, b" deadline=", deadline);
+    let p3 = lines::number(out, p2, b" count=", entry.retrans as u64);
+    let p4 = maximum(out, p3, most);
+    let p5 = lines::flag(out, p4, b" suppressed=", entry.suppressed);
+    lines::line(out, p5)
+}
+
 fn first_three(table: TimerTable, out: &mut [u8], at: usize) -> usize {
-    let p1 = answers::timer(out, at, b"timer 0 T1Init", table.entries[0]);
-    let p2 = answers::timer(out, p1, b"timer 1 T1Cookie", table.entries[1]);
-    answers::timer(out, p2, b"timer 2 T2Shutdown", table.entries[2])
+    let p1 = entry(out, at, b"timer 0 T1Init", table.entries[0]);
+    let p2 = entry(out, p1, b"timer 1 T1Cookie", table.entries[1]);
+    entry(out, p2, b"timer 2 T2Shutdown", table.entries[2])
 }
 
 fn last_three(table: TimerTable, out: &mut [u8], at: usize) -> usize {
-    let p1 = answers::timer(out, at, b"timer 3 T3RTX", table.entries[3]);
-    let p2 = answers::timer(out, p1, b"timer 4 Reconfig", table.entries[4]);
-    answers::timer(out, p2, b"timer 5 Ack", table.entries[5])
+    let p1 = entry(out, at, b"timer 3 T3RTX", table.entries[3]);
+    let p2 = entry(out, p1, b"timer 4 Reconfig", table.entries[4]);
+    entry(out, p2, b"timer 5 Ack", table.entries[5])
 }
 
 pub fn timers_state(table: TimerTable, out: &mut [u8], at: usize) -> usize {
-    let p1 = answers::number(out, at, b"timers rto_max=", table.rto_max as u64);
-    let p2 = answers::line(out, p1);
+    let p1 = lines::number(out, at, b"timers rto_max=", table.rto_max as u64);
+    let p2 = lines::line(out, p1);
     let p3 = first_three(table, out, p2);
     last_three(table, out, p3)
+}
+
+// Sixteen hexadecimal digits.
+fn hexadecimal(out: &mut [u8], at: usize, n: u64) -> usize {
+    let mut digits = [0u8; 16];
+    let count = io::hex(n, 16, &mut digits);
+    lines::text(out, at, &digits[..count])
+}
+
+// The bits of a float; the estimator's spread is never a NaN, which has none.
+fn bits(value: f64) -> u64 {
+    if value == value {
+        return f64::to_bits(value);
+    }
+    0
+}
+
+fn spread(out: &mut [u8], at: usize, rttvar: f64) -> usize {
+    let place = lines::text(out, at, b" rttvar=");
+    hexadecimal(out, place, bits(rttvar))
+}
+
+fn bounds(out: &mut [u8], at: usize, manager: RtoManager) -> usize {
+    let p1 = lines::number(out, at, b" initial=", manager.rto_initial);
+    let p2 = lines::number(out, p1, b" min=", manager.rto_min);
+    let p3 = lines::number(out, p2, b" max=", manager.rto_max);
+    lines::line(out, p3)
+}
+
+pub fn estimate(out: &mut [u8], at: usize, manager: RtoManager) -> usize {
+    let p1 = lines::number(out, at, b"rto=", manager.rto);
+    let p2 = lines::number(out, p1, b" srtt=", manager.srtt);
+    let p3 = spread(out, p2, manager.rttvar);
+    let p4 = lines::flag(out, p3, b" no_update=", manager.no_update);
+    bounds(out, p4, manager)
 }

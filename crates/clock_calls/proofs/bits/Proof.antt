@@ -4,8 +4,8 @@ use mathlib.Core.Bool.{true, not, true≢false}
 use lib.Dec.{T}
 use lib.Ieee.{Float, nan, inf, fin, eq, isNan}
 use borrow.Author.Needs.{needs}
-use Rattle.answers.proofs.bits.Statement.{statement}
-use Rattle.answers.proofs.bits.Tie as tie
+use Rattle.clock_calls.proofs.bits.Statement.{statement}
+use Rattle.clock_calls.proofs.bits.Tie as tie
 
 -- a NaN equals nothing
 known : (x : Float) → eq x x ≡ true → T (not (isNan x))
