@@ -75,8 +75,7 @@ static void loop(void) {
         if (c.kind == GIRDERMOTH_REXMIT && (uint32_t)kept[t % ROOM].sent > c.value) { give_up(t); continue; }
         counts[AGAIN]++; transmit(c);
     }
-    while (girdermoth_inflight_bytes(&s).value < window) {
-        expire();
+    for (expire(); girdermoth_inflight_bytes(&s).value < window; expire()) {
         girdermoth_fragment c = girdermoth_send_next(&s, now);
         counts[FULL_FLIGHTS] += c.refusal == GIRDERMOTH_FLIGHT_FULL;
         if (!c.some) break;
@@ -114,9 +113,10 @@ static void write_one(const wish *w) {
 static bool idle(void) { return girdermoth_pending_len(&s).value == 0 && girdermoth_inflight_len(&s).value == 0; }
 
 static void wait_for_more(void) {
-    girdermoth_reply timeout = girdermoth_timers_next_timeout(&timers);
+    girdermoth_reply timeout = girdermoth_timers_next_timeout(&timers), due = girdermoth_next_deadline(&s);
     uint64_t next = next_wish() < next_arrival() ? next_wish() : next_arrival();
     if (timeout.yes && timeout.value < next) next = timeout.value;
+    if (due.yes && due.value > now && due.value < next) next = due.value;   // one that has passed is of an acknowledged entry
     now = next > now && next < UINT64_MAX ? next : now + 1;
     for (packet p; next_sack(&p);) sack(&p);
 }
