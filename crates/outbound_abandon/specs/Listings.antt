@@ -24,6 +24,7 @@ use Rattle.model.specs.Rings.{Listing, tsnsAre, refused, listing, expiredInflig
 use Rattle.model.specs.Flight.{found}
 use Rattle.demands.specs.Words.{numberUnderWay, numberOfHead}
 use Rattle.demands.specs.States.{Has}
+use Rattle.rows.specs.Walks.{some-in}
 use Rattle.chunk_slot.specs.Chunks.{blankChunk}
 use Rattle.payload_queue.specs.declared.Pending.{Pending}
 use Rattle.payload_queue.specs.Queue.{leastDue, isAwaited, overdueTsns, soughtTsns, listed, written}
@@ -31,7 +32,7 @@ use Rattle.payload_queue.specs.Dues.{none-due}
 use Rattle.payload_queue.specs.Listing.{fits, sought-none, lists-as}
 use Rattle.ring.specs.Held.{found-some}
 use Rattle.payload_queue.specs.Model.{Names, expired-is}
-use Rattle.pending_queue.specs.Queue.{underWayOf, some-in}
+use Rattle.pending_queue.specs.Queue.{underWayOf}
 use Rattle.outbound_queue.specs.Outbound.{Good}
 use Rattle.outbound_abandon.specs.LeanListing.{named, leanList, Lent, listedIn, DoesKept}
 

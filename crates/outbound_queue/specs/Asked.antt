@@ -8,8 +8,8 @@ use lib.Dec.{eqb}
 use Rattle.model.specs.declared.Chunk.{Chunk}
 use Rattle.model.specs.declared.Found.{Found}
 use Rattle.model.specs.Flight.{found, isAbandoned, hasStream}
+use Rattle.rows.specs.Walks.{some-in}
 use Rattle.ring.specs.Held.{found-none, found-some}
-use Rattle.pending_queue.specs.Queue.{some-in}
 
 -- ---- whether the entry that was found is abandoned
 

@@ -1,7 +1,7 @@
 -- What a queue of pending chunks means, and the kept sum of its bytes.
-use mathlib.Core.Path.{_≡_, refl, ap, _∙_}
-use mathlib.Core.Bool.{Bool, true, false, _||_, or-assoc}
-use mathlib.Core.List.{List, [], _∷_, _++_, map}
+use mathlib.Core.Path.{_≡_, refl}
+use mathlib.Core.Bool.{Bool, true, false}
+use mathlib.Core.List.{List, [], map}
 use Prim.Native.Nat.{ℕ, _+_, _%_, _^_, _<_}
 use native.Mathlib.Omega.{arith}
 use lib.ListN.{length}
@@ -11,7 +11,7 @@ use Rattle.model.specs.declared.Chunk.{Chunk}
 use Rattle.model.specs.declared.UnderWay.{UnderWay}
 use Rattle.model.specs.declared.UnderWay.the-variants.{Idle, Sending}
 use Rattle.model.specs.State.{Pending, laneOf}
-use Rattle.model.specs.Lists.{if_then_else_, some-of}
+use Rattle.model.specs.Lists.{if_then_else_}
 use Rattle.model.specs.Rings.{withMessage, renewed, ssnBefore, lowered, bytes}
 use Rattle.ring.specs.declared.Ring.{Ring}
 use Rattle.ring.specs.Held.{held}
@@ -43,11 +43,6 @@ Counted q u o = q .bytes ≡ bytesIn (pendingIn q u o)
 -- what is pending is the same if its parts are
 pub both : {p q : Pending} → p .underWay ≡ q .underWay → p .unordered ≡ q .unordered → p .ordered ≡ q .ordered → p ≡ q
 both w u o = λ i. record { underWay = w i; unordered = u i; ordered = o i }
-
--- a search in one ring, and then in the other; `r` is what the first found
-pub some-in : (p : Chunk → Bool) (l m : List Chunk) {r : Bool} → r ≡ some-of p l → (r || some-of p m) ≡ some-of p (l ++ m)
-some-in p [] m e = ap (λ (b : Bool). b || some-of p m) e
-some-in p (c ∷ l) m e = ap (λ (b : Bool). b || some-of p m) e ∙ or-assoc (p c) (some-of p l) (some-of p m) ∙ ap (λ (b : Bool). p c || b) (some-in p l m refl)
 
 -- ---- sums of bytes
 

@@ -1,18 +1,22 @@
 -- What a ring in lent cells holds, and what its calls do to that list. In the laws `k` is the slot that the code has computed, and `vs`
 -- are the words after a change of that slot.
-use mathlib.Core.Path.{_≡_, refl, ap, _∙_}
+use mathlib.Core.Path.{_≡_, refl, sym, ap, _∙_}
+use mathlib.Core.Bool.{Bool, _||_}
 use mathlib.Core.Option.{Option, none, some}
 use mathlib.Core.List.{List, [], _∷_, _++_}
 use Prim.Native.Nat.{ℕ, zero, suc, _+_, _-_, _%_, _≤_, _<_, min}
 use native.Mathlib.Nat.{mod-lt, not-suc-le-zero, le-of-suc-le-suc}
 use native.Mathlib.Omega.{arith}
 use lib.ListN.{length, getD, getElem?, set, drop}
+use lib.Dec.{eqb}
 use Rattle.model.specs.declared.Chunk.{Chunk}
 use Rattle.model.specs.declared.Found.{Found}
 use Rattle.model.specs.Lists.{first, adjust}
-use Rattle.model.specs.Flight.{found}
+use Rattle.model.specs.Flight.{found, hasStream}
+use Rattle.rows.specs.Parts.{part}
 use Rattle.rows.specs.Turns.{nil-of}
-use Rattle.rows.specs.Rounds.{cellOf, cell-low, round, round-length, round-get, round-set, round-adjust, round-push, round-pop}
+use Rattle.rows.specs.Walks.{some-in}
+use Rattle.rows.specs.Rounds.{cellOf, cell-low, round, round-length, round-get, round-set, round-adjust, round-push, round-pop, round-parts}
 use Rattle.cells.specs.Slots.{roomOf, limit, length-slots}
 use Rattle.chunk_slot.specs.Chunks.{chunkIn, chunks, blankChunk}
 use Rattle.ring.specs.declared.Ring.{Ring}
@@ -52,6 +56,17 @@ module _ (r : Ring) (ws : List ℕ) (i k : ℕ) (e : k ≡ slotOf r ws i) where
   pub held-adjust : (f : Chunk → Chunk) (vs : List ℕ) → chunks vs ≡ adjust f k (chunks ws) → held r vs ≡ adjust f i (held r ws)
   held-adjust f vs q =
       round-adjust (roomOf ws) (r .start) (r .len) (chunks ws) (length-slots chunkIn ws) f i blankChunk (chunks vs) (q ∙ ap (λ (j : ℕ). adjust f j (chunks ws)) e)
+
+-- ---- a search of all: among the slots from the start on, and past the seam among those from slot 0 on. `cap` is the number that the code
+-- has for the room, and `b` what the first search found
+
+module _ (r : Ring) (ws : List ℕ) {n cap s : ℕ} (e : n ≡ length (held r ws)) (k : cap ≡ roomOf ws) (q : s ≡ r .start % cap) where
+  held-parts : held r ws ≡ part s (s + n) (chunks ws) ++ part 0 (n - (cap - s)) (chunks ws)
+  held-parts = round-parts cap (r .start) (r .len) (chunks ws) (length-slots chunkIn ws ∙ sym k) n s (omega (arith, length-held r ws)) q
+
+  pub held-stream : (id : ℕ) {b : Bool} → b ≡ hasStream id (part s (s + n) (chunks ws)) → (b || hasStream id (part 0 (n - (cap - s)) (chunks ws))) ≡ hasStream id (held r ws)
+  held-stream id h =
+      some-in (λ (c : Chunk). eqb (c .message .stream) id) (part s (s + n) (chunks ws)) (part 0 (n - (cap - s)) (chunks ws)) h ∙ ap (hasStream id) (sym held-parts)
 
 -- ---- one more, one less
 

@@ -8,7 +8,8 @@ ghost use Rattle.limits.specs.Limits.{clockMax};
 ghost use Rattle.model.specs.Lists.{adjust};
 ghost use Rattle.model.specs.Rings.{givenUp, lowered, started};
 ghost use Rattle.model.specs.Flight.{acknowledged, toRetransmit, hasStream};
-ghost use Rattle.chunk_slot.specs.Chunks.{blankChunk};
+ghost use Rattle.rows.specs.Parts.{part};
+ghost use Rattle.chunk_slot.specs.Chunks.{chunks, blankChunk};
 ghost use Rattle.chunk_slot.specs.Changes.{heldOf};
 ghost use Rattle.ring.specs.Held.{held};
 
@@ -20,27 +21,41 @@ pub fn nth_number(ring: Ring, cells: &[u64], i: usize) -> u64
     chunk_slot::parts::number_at(cells, at)
 }
 
-// The stream of the i-th, and 0 past the end.
-pub fn nth_stream(ring: Ring, cells: &[u64], i: usize) -> u16
-    ensures { λ r. ⌜ r ≡ getD (held ring (now (cells .entry))) i blankChunk .message .stream ⌝ }
+// Whether some slot from `from` on and before `to` is of the stream; past the room there is none. The end is brought down to the room, so that
+// the compiler leaves out the test of each slot.
+fn among(cells: &[u64], from: usize, to: usize, stream: u16) -> bool
+    ensures { λ r. ⌜ r ≡ hasStream stream (part from to (chunks (now (cells .entry)))) ⌝ }
 {
-    let at = super::slot(ring, cells, i);
-    chunk_slot::parts::stream_at(cells, at)
+    let room = cells::room(cells);
+    let end = if to < room { to } else { room };
+    let mut at = from;
+    while at < end {
+        if chunk_slot::parts::stream_at(cells, at) == stream {
+            return true;
+        }
+        at += 1;
+    }
+    false
 }
 
-// Whether some chunk is of the stream.
+// Whether some chunk is of the stream: among the slots from the start on, or past the seam, from slot 0 on.
 pub fn has_stream(ring: Ring, cells: &[u64], stream: u16) -> bool
     ensures { λ r. ⌜ r ≡ hasStream stream (held ring (now (cells .entry))) ⌝ }
 {
     let n = super::count(ring, cells);
-    let mut i = 0;
-    while i < n {
-        if nth_stream(ring, cells, i) == stream {
-            return true;
-        }
-        i += 1;
+    if n == 0 {
+        return false;
     }
-    false
+    let room = cells::room(cells);
+    let start = super::fold(ring.start, room);
+    let behind = room - start;
+    if among(cells, start, start + n, stream) {
+        return true;
+    }
+    if n <= behind {
+        return false;
+    }
+    among(cells, 0, n - behind, stream)
 }
 
 // The i-th is to be retransmitted, if it is neither acknowledged nor abandoned.

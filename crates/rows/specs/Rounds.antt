@@ -3,17 +3,18 @@
 use mathlib.Core.Path.{_≡_, sym, ap, _∙_}
 use mathlib.Core.Bool.{Bool}
 use mathlib.Core.Logic.{⊎-elim}
-use Prim.Native.Nat.{ℕ, _+_, _-_, _%_, _≤_, _<_, min}
-use native.Mathlib.Nat.{mod-lt}
+use Prim.Native.Nat.{ℕ, zero, suc, _+_, _-_, _%_, _≤_, _<_, min}
+use native.Mathlib.Nat.{mod-lt, sub-zero, zero-sub, suc-sub-suc, add-sub-cancel-left, zero-min, min-zero, suc-min-suc}
 use native.Mathlib.Omega.{arith}
 use mathlib.Core.List.{List, [], _∷_, _++_}
-use lib.ListN.{length, getD, set, drop, length-set, List·getD-eq-default}
-use lib.Seq.{set-out}
+use lib.ListN.{length, getD, set, take, drop, length-set, length-drop, List·getD-eq-default}
+use lib.Seq.{set-out, take-nil, take-take}
 use lib.Dec.{ltb}
 use borrow.Author.Tests.{lt-ltb, le-ltb}
 use Rattle.model.specs.Lists.{if_then_else_, adjust}
 use Rattle.rows.specs.Adjusts.{adjust-set}
-use Rattle.rows.specs.View.{place-low, place-high, view, lt-or-ge, length-view, view-get, view-set, view-push, view-pop}
+use Rattle.rows.specs.Parts.{part}
+use Rattle.rows.specs.View.{place-low, place-high, turned, view, lt-or-ge, length-turned, length-view, view-get, view-set, view-push, view-pop}
 
 -- the cell of the i-th; past the end the number of cells, where there is none
 abbrev pub cellOf : (cap start len i : ℕ) → ℕ
@@ -43,6 +44,17 @@ module _ (cap start len i s : ℕ) (e : s ≡ start % cap) (h : i < min len cap)
   cell-high l = let k : i < cap = omega arith in omega (arith, folded, place-high cap s i folded k l, here)
 
 module _ {A : Type 0} where
+  -- no more is taken than there is; and of two lists the second where the first ends
+  take-min : (n : ℕ) (l : List A) → take n l ≡ take (min n (length l)) l
+  take-min zero l = rw zero-min
+  take-min (suc n) [] = rw min-zero
+  take-min (suc n) (x ∷ l) = rw suc-min-suc (ap (λ (r : List A). x ∷ r) (take-min n l))
+
+  take-join : (n : ℕ) (l m : List A) → take n (l ++ m) ≡ take n l ++ take (n - length l) m
+  take-join n [] m = simp (take-nil, sub-zero)
+  take-join zero (x ∷ l) m = rw zero-sub
+  take-join (suc n) (x ∷ l) m = rw suc-sub-suc (ap (λ (r : List A). x ∷ r) (take-join n l m))
+
   -- the cells in order: `len` of them (all, where that is more), from cell `start` on (modulo their number), and round
   pub round : (start len : ℕ) → List A → List A
   round start len xs = view (length xs) start len xs
@@ -101,3 +113,14 @@ module _ {A : Type 0} where
     unfolding round
     round-pop d n s p q h =
         ap (λ (c : ℕ). view c (s + 1) (n - 1) xs) e ∙ ap (λ (z : ℕ). view cap (z + 1) (n - 1) xs) q ∙ view-pop cap start len xs e d n p h ∙ ap (drop 1) (sym as-view)
+
+    -- the cells from the start on, and those from cell 0 on where that passes the last
+    pub round-parts : (n s : ℕ) → n ≡ min len cap → s ≡ start % cap → round start len xs ≡ part s (s + n) xs ++ part 0 (n - (cap - s)) xs
+    round-parts n s p q =
+        let k : min len (length (turned (start % cap) xs)) ≡ n = omega (arith, length-turned (start % cap) xs) in
+        let b : length (drop s xs) ≡ cap - s = omega (arith, length-drop s xs) in
+        let h : n - (cap - s) ≤ s = omega arith in
+        rw (add-sub-cancel-left, sub-zero)
+        (as-view ∙ take-min len (turned (start % cap) xs) ∙ ap (λ (j : ℕ). take j (turned (start % cap) xs)) k ∙ ap (λ (j : ℕ). take n (turned j xs)) (sym q)
+        ∙ take-join n (drop s xs) (take s xs) ∙ ap (λ (j : ℕ). take n (drop s xs) ++ take (n - j) (take s xs)) b
+        ∙ ap (λ (r : List A). take n (drop s xs) ++ r) (take-take (n - (cap - s)) s xs h))

@@ -1,14 +1,15 @@
 -- One turn of a loop over a list that is read by index and changed by `adjust`, going up. `l` is the list before the loop, `m` the list
 -- now, and `x` what is read at `i` (`d` where there is nothing).
 use mathlib.Core.Path.{_≡_, refl, ap, _∙_}
-use Prim.Native.Nat.{ℕ, zero, suc, _+_, _≤_, _<_}
+use Prim.Native.Nat.{ℕ, zero, suc, _+_, _-_, _≤_, _<_, min}
 use native.Mathlib.Nat.{not-suc-le-zero, le-of-suc-le-suc}
 use native.Mathlib.Numerals.{add-one}
 use native.Mathlib.Omega.{arith}
 use mathlib.Core.List.{List, [], _∷_, _++_, map, append-nil}
-use lib.ListN.{length, getD, take, drop, drop-of-length-le}
+use lib.ListN.{length, getD, take, drop, length-take, length-drop, drop-of-length-le}
 use lib.Seq.{drop-cons, take-all}
 use Rattle.model.specs.Lists.{adjust}
+use Rattle.rows.specs.Parts.{part}
 
 module _ {A : Type 0} where
   pub nil-of : (l : List A) → length l ≡ 0 → l ≡ []
@@ -22,6 +23,15 @@ module _ {A : Type 0} where
 
   pub rest-none : (l : List A) (i : ℕ) → length l ≤ i → drop i l ≡ []
   rest-none l i h = drop-of-length-le l h
+
+  -- the same where the loop ends at b
+  pub part-turn : (l : List A) (i b : ℕ) (d : A) {x : A} → x ≡ getD l i d → i < min b (length l) → part i b l ≡ x ∷ part (i + 1) b l
+  part-turn l i b d q h =
+      let k : b - i ≡ suc (b - (i + 1)) = omega arith in
+      ap (λ (n : ℕ). take n (drop i l)) k ∙ ap (take (suc (b - (i + 1)))) (read-turn l i d q (omega arith))
+
+  pub part-none : (l : List A) (i b : ℕ) → min b (length l) ≤ i → part i b l ≡ []
+  part-none l i b h = nil-of (part i b l) (simp (length-take, length-drop) (omega arith))
 
   -- ---- a loop that puts f of each element in its place
 

@@ -1,8 +1,8 @@
 -- Walks over a list by a test, for invariants and for the contracts of private functions; `some-of`, `keep` and `total` are the model's.
 use mathlib.Core.Path.{_≡_, refl, sym, ap, _∙_}
-use mathlib.Core.Bool.{Bool, true, false, _||_, _&&_}
+use mathlib.Core.Bool.{Bool, true, false, _||_, _&&_, or-assoc}
 use Prim.Native.Nat.{ℕ, _+_}
-use mathlib.Core.List.{List, [], _∷_, map}
+use mathlib.Core.List.{List, [], _∷_, _++_, map}
 use native.Mathlib.Nat.{zero-add}
 use Rattle.model.specs.Lists.{if_then_else_, some-of, keep, total}
 
@@ -50,6 +50,11 @@ module _ {A : Type 0} (p : A → Bool) {l rest : List A} {x : A} (q : l ≡ x �
 
   pub drop-miss : p x ≡ false → dropWhile p l ≡ l
   drop-miss h = ap (dropWhile p) q ∙ ap (λ (b : Bool). if b then dropWhile p rest else (x ∷ rest)) h ∙ sym q
+
+-- ---- a search in one list, and then in another; `r` is what the first found
+pub some-in : {A : Type 0} (p : A → Bool) (l m : List A) {r : Bool} → r ≡ some-of p l → (r || some-of p m) ≡ some-of p (l ++ m)
+some-in p [] m e = ap (λ (b : Bool). b || some-of p m) e
+some-in p (x ∷ l) m e = ap (λ (b : Bool). b || some-of p m) e ∙ or-assoc (p x) (some-of p l) (some-of p m) ∙ ap (λ (b : Bool). p x || b) (some-in p l m refl)
 
 -- ---- a sum over those that pass, as a loop over all of them has it
 module _ {A : Type 0} (p : A → Bool) (w : A → ℕ) where

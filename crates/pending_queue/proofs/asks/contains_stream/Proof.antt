@@ -5,8 +5,8 @@ use denote.Ref.{now}
 use lib.Dec.{eqb}
 use Rattle.model.specs.declared.Chunk.{Chunk}
 use Rattle.model.specs.Flight.{hasStream}
+use Rattle.rows.specs.Walks.{some-in}
 use Rattle.ring.specs.Held.{held}
-use Rattle.pending_queue.specs.Queue.{some-in}
 use borrow.Author.Needs.{needs}
 use Rattle.pending_queue.proofs.asks.contains_stream.Statement.{statement}
 use Rattle.pending_queue.proofs.asks.contains_stream.Tie as tie
