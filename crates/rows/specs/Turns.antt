@@ -44,11 +44,6 @@ module _ {A : Type 0} where
   mapped-suc f (x ∷ l) zero h = refl
   mapped-suc f (x ∷ l) (suc i) h = ap (λ (r : List A). f x ∷ r) (mapped-suc f l i (le-of-suc-le-suc h))
 
-  mapped-get : (f : A → A) (l : List A) (i : ℕ) (d : A) → i < length l → getD (mapped f i l) i d ≡ getD l i d
-  mapped-get f [] i d h = absurd (not-suc-le-zero h)
-  mapped-get f (x ∷ l) zero d h = refl
-  mapped-get f (x ∷ l) (suc i) d h = mapped-get f l i d (le-of-suc-le-suc h)
-
   abbrev pub Mapped : (A → A) → List A → ℕ → List A → Type 0
   Mapped f l i m = m ≡ mapped f i l
 
@@ -56,10 +51,6 @@ module _ {A : Type 0} where
     pub map-done : length l ≤ i → m ≡ map f l
     map-done h =
         v ∙ ap (λ (r : List A). map f r ++ drop i l) (take-all i l h) ∙ ap (λ (r : List A). map f l ++ r) (drop-of-length-le l h) ∙ append-nil (map f l)
-
-    -- what is read is still the old element, so the loop can sum or search over the old list on its way
-    pub map-read : (d : A) {x : A} → x ≡ getD m i d → i < length l → drop i l ≡ x ∷ drop (i + 1) l
-    map-read d q h = read-turn l i d (q ∙ ap (λ (r : List A). getD r i d) v ∙ mapped-get f l i d h) h
 
     pub map-turn : i < length l → {m' : List A} → m' ≡ adjust f i m → Mapped f l (i + 1) m'
     map-turn h s = s ∙ ap (adjust f i) v ∙ rw add-one (mapped-suc f l i h)
