@@ -2,7 +2,7 @@
 use mathlib.Core.Path.{_≡_, refl, sym, ap, ap₂, subst, _∙_}
 use mathlib.Core.Bool.{true, false, not}
 use mathlib.Core.Option.{some}
-use mathlib.Core.List.{List, []}
+use mathlib.Core.List.{List, [], _∷_}
 use Prim.Native.Nat.{ℕ, _+_, _-_, _*_, _/_, _≤_, _<_, min}
 use native.Mathlib.Omega.{arith}
 use lib.ListN.{length}
@@ -11,10 +11,10 @@ use Rattle.model.specs.declared.Chunk.{Chunk}
 use Rattle.model.specs.declared.Lane.{Lane}
 use Rattle.model.specs.declared.Stream.{Stream}
 use Rattle.model.specs.Lists.{keep}
-use Rattle.model.specs.State.{Sender, Pending, Flight, fresh, withStreams, at, isOf}
+use Rattle.model.specs.State.{Sender, Pending, Flight, Numbers, fresh, withStreams, at, isOf}
 use Rattle.model.specs.Rings.{head}
 use Rattle.demands.specs.Words.{Each, numberUnderWay}
-use Rattle.demands.specs.States.{Kept, Contiguous, Ascending, Has, dropRun}
+use Rattle.demands.specs.States.{Kept, PendingChunk, Contiguous, Ascending, Has, dropRun}
 use Rattle.rows.specs.Parts.{part, patch, part-length, patch-length, part-same, part-before, part-after}
 use Rattle.cells.specs.Slots.{limit, roomOf}
 use Rattle.payload_queue.specs.declared.PayloadQueue.{PayloadQueue}
@@ -75,6 +75,7 @@ Counted q ws = CountedIn q (ringsIn ws)
 
 pub record Good (room : Room) (s : Sender) : Type 0 where
   pub ordered : (l : Lane) → Ascending 0 (at l (s .pending))
+  pub numbered : (l : Lane) → Each (λ c. c .message .number < s .numbers .next) (at l (s .pending))
   pub headRun : (c : Chunk) → head (s .pending) ≡ some c → (l : Lane) → keep (λ d. not (isOf (c .message .number) d)) (at l (s .pending)) ≡ dropRun (c .message .number) (at l (s .pending))
   pub flightRun : (n : ℕ) → Has n (s .flight .entries) → (l : Lane) → keep (λ d. not (isOf n d)) (at l (s .pending)) ≡ dropRun n (at l (s .pending))
   pub partly : (l : Lane) (n : ℕ) → Has n (at l (s .pending)) → Has n (s .flight .entries) → numberUnderWay (s .pending) ≡ some n
@@ -83,11 +84,16 @@ pub record Good (room : Room) (s : Sender) : Type 0 where
   pub contiguous : Contiguous (numberUnderWay (s .pending)) (s .flight .entries)
   pub unended : (n : ℕ) → numberUnderWay (s .pending) ≡ some n → Each (λ c. isOf n c ≡ true → c .ending ≡ false) (s .flight .entries)
 
+each-numbered : (ts : List Stream) (n : Numbers) (l : Lane) (x : List Chunk) → Each (PendingChunk ts n l) x → Each (λ c. c .message .number < n .next) x
+each-numbered ts n l [] a = tt
+each-numbered ts n l (c ∷ x) a = (a .0 .numbered, each-numbered ts n l x (a .1))
+
 -- and so it is in all of these
 pub kept-good : {room : Room} {s : Sender} → Kept room s → Good room s
-kept-good k =
+kept-good {room} {s} k =
     record {
       ordered = k .ordered;
+      numbered = λ l. each-numbered (s .streams) (s .numbers) l (at l (s .pending)) (k .pending l);
       headRun = k .headRun;
       flightRun = k .flightRun;
       partly = k .partly;

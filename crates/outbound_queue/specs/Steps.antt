@@ -1,23 +1,28 @@
 -- What has become of the sender after each step: `r` are the rings of the cells then, and a part that came back is a variable.
 use mathlib.Core.Path.{_≡_, refl, sym, ap, subst, _∙_}
-use mathlib.Core.Bool.{Bool, true, false}
-use mathlib.Core.List.{List}
-use Prim.Native.Nat.{ℕ, _+_}
+use mathlib.Core.Bool.{Bool, true, false, _&&_}
+use mathlib.Core.List.{List, [], _∷_, map}
+use Prim.Native.Nat.{ℕ, _+_, _<_}
 use native.Mathlib.Omega.{arith}
+use lib.Dec.{eqb}
+use borrow.Author.Tests.{lt-leb, eqb-true, eq-eqb, ne-eqb}
 use Rattle.model.specs.declared.Chunk.{Chunk}
-use Rattle.model.specs.declared.Lane.the-variants.{Ordered}
+use Rattle.model.specs.declared.Lane.{Lane}
+use Rattle.model.specs.declared.Lane.the-variants.{Unordered, Ordered}
 use Rattle.model.specs.declared.Message.{Message}
 use Rattle.model.specs.declared.Stream.{Stream}
 use Rattle.model.specs.Lists.{if_then_else_}
 use Rattle.model.specs.State.{Sender, Pending, at, laneOf, inRings, withPending, withNumbers, withRing}
-use Rattle.model.specs.Rings.{bytes}
+use Rattle.model.specs.Rings.{bytes, started}
+use Rattle.demands.specs.Words.{Each}
+use Rattle.rows.specs.Walks.{all}
 use Rattle.ring.specs.Held.{held}
 use Rattle.pending_queue.specs.declared.cutting.Added.{Added}
 use Rattle.pending_queue.specs.declared.PendingQueue.{PendingQueue}
 use Rattle.pending_queue.specs.Queue.{both, counted-more}
 use Rattle.pending_queue.specs.Fragments.{Adds, withFragments, added, fits}
 use Rattle.pending_queue.specs.Adding.{withAdded}
-use Rattle.pending_queue.specs.Lifetimes.{startedEnd, started-bytes}
+use Rattle.pending_queue.specs.Lifetimes.{unseen, startedEnd, started-bytes}
 use Rattle.outbound_queue.specs.declared.OutboundQueue.{OutboundQueue}
 use Rattle.outbound_queue.specs.Outbound.{Rings, ringsIn, ringRoom, remade, waiting, senderIn, senderOf, CountedIn, sender-by, counted-by}
 use Rattle.outbound_queue.specs.Calls.{waitingIn, Joins}
@@ -26,10 +31,47 @@ use Rattle.outbound_queue.specs.Calls.{waitingIn, Joins}
 abbrev pub seenWith : Pending → Sender → Sender
 seenWith p s = withNumbers (record { next = s .numbers .next; unstarted = s .numbers .next }) (withPending p s)
 
--- lifetimes are started from the back of each ring to the first message that was seen
-abbrev pub endsStarted : (now : ℕ) → Sender → Sender
-endsStarted now s = seenWith (inRings (startedEnd now (s .numbers .unstarted)) (s .pending)) s
+-- lifetimes are started from the back of a ring to the first message that was seen; none where every message was seen
+abbrev pub newEnd : (now unstarted next : ℕ) → List Chunk → List Chunk
+newEnd now k n l = if eqb k n then l else startedEnd now k l
 
+-- so in both rings
+abbrev pub endsStarted : (now : ℕ) → Sender → Sender
+endsStarted now s = seenWith (inRings (newEnd now (s .numbers .unstarted) (s .numbers .next)) (s .pending)) s
+
+module _ (now k n : ℕ) where
+  none-new : k ≡ n → (l : List Chunk) → l ≡ newEnd now k n l
+  none-new e l = sym (ap (λ (b : Bool). if b then l else startedEnd now k l) (eq-eqb k n e))
+
+  some-new : (k ≡ n → ⊥) → (l : List Chunk) → startedEnd now k l ≡ newEnd now k n l
+  some-new d l = sym (ap (λ (b : Bool). if b then l else startedEnd now k l) (ne-eqb k n d))
+
+  none-unseen : (l : List Chunk) → Each (λ c. c .message .number < k) l → l ≡ startedEnd now k l
+  none-unseen [] h = refl
+  none-unseen (c ∷ l) h =
+      ap (λ (x : List Chunk). c ∷ x) (none-unseen l (h .1))
+      ∙ sym (ap (λ (b : Bool). if b && all (unseen k) l then map (started now k) (c ∷ l) else (c ∷ startedEnd now k l)) (lt-leb k (c .message .number) (h .0)))
+
+  -- where each message is numbered below the next, the test changes nothing
+  new-end : (l : List Chunk) → Each (λ c. c .message .number < n) l → newEnd now k n l ≡ startedEnd now k l
+  new-end l h = by (eqb k n) refl
+    where
+      by : (b : Bool) → eqb k n ≡ b → (if b then l else startedEnd now k l) ≡ startedEnd now k l
+      by true e = none-unseen l (subst (λ (i : ℕ). Each (λ c. c .message .number < i) l) (sym (eqb-true k n e)) h)
+      by false e = refl
+
+  pub new-ends : (p : Pending) → ((l : Lane) → Each (λ c. c .message .number < n) (at l p)) → inRings (newEnd now k n) p ≡ inRings (startedEnd now k) p
+  new-ends p h = both refl (new-end (p .unordered) (h Unordered)) (new-end (p .ordered) (h Ordered))
+
+-- every message was seen: the sender stays
+pub all-seen : (now : ℕ) (q : OutboundQueue) (r : Rings) → q .«next_unstarted_message_id» ≡ q .«next_message_id» → (ts : List Stream) → senderIn ts q r ≡ endsStarted now (senderIn ts q r)
+all-seen now q r e ts =
+    let s = senderIn ts q r in
+    let stays = none-new now (q .«next_unstarted_message_id») (q .«next_message_id») e in
+    ap (λ (n : ℕ). withNumbers (record { next = s .numbers .next; unstarted = n }) s) e
+    ∙ ap (λ (p : Pending). seenWith p s) (both refl (stays (s .pending .unordered)) (stays (s .pending .ordered)))
+
+-- it was not: one ring after the other came back
 module _ (now : ℕ) (q : OutboundQueue) (r : Rings) (u o : List ℕ)
     (a : held (q .pending .unordered) u ≡ startedEnd now (q .«next_unstarted_message_id») (held (q .pending .unordered) (r .unordered)))
     (b : held (q .pending .ordered) o ≡ startedEnd now (q .«next_unstarted_message_id») (held (q .pending .ordered) (r .ordered))) where
@@ -39,8 +81,10 @@ module _ (now : ℕ) (q : OutboundQueue) (r : Rings) (u o : List ℕ)
   abbrev after : Rings
   after = record { unordered = u; ordered = o; flight = r .flight }
 
-  pub started-rings : (ts : List Stream) → senderIn ts seen after ≡ endsStarted now (senderIn ts q r)
-  started-rings ts = ap (λ (p : Pending). seenWith p (senderIn ts q r)) (both refl a b)
+  pub started-rings : (q .«next_unstarted_message_id» ≡ q .«next_message_id» → ⊥) → (ts : List Stream) → senderIn ts seen after ≡ endsStarted now (senderIn ts q r)
+  started-rings d ts =
+      let starts = some-new now (q .«next_unstarted_message_id») (q .«next_message_id») d in
+      ap (λ (p : Pending). seenWith p (senderIn ts q r)) (both refl (a ∙ starts (held (q .pending .unordered) (r .unordered))) (b ∙ starts (held (q .pending .ordered) (r .ordered))))
 
   pub started-counted : CountedIn q r → CountedIn seen after
   started-counted h =

@@ -29,11 +29,14 @@ pub struct Joined {
     pub done: bool,
 }
 
-// Starts the lifetimes of the messages not yet seen, at the ends of the rings; all are seen then. A clock beyond its limit is taken as the
-// limit.
+// Starts the lifetimes of the messages not yet seen, at the ends of the rings; all are seen then. Where every message was seen, no ring is
+// looked at. A clock beyond its limit is taken as the limit.
 pub fn start_rings(q: OutboundQueue, cells: &mut [u64], clock: u64) -> OutboundQueue
     ensures { λ r. ⌜ Becomes (endsStarted (min clock clockMax)) q (now (cells .entry)) r (now (cells .exit)) ⌝ }
 {
+    if q.next_unstarted_message_id == q.next_message_id {
+        return q;
+    }
     let k = cells.len() / 24 * 8;
     let pending = q.pending;
     let inflight = q.inflight;

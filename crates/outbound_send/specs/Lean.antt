@@ -1,5 +1,5 @@
--- The two calls as the code makes them, of any state at all: lifetimes start at the ends of the rings alone. In a `Good` state each is the
--- model's call.
+-- The two calls as the code makes them, of any state at all: lifetimes start at the ends of the rings alone, and none where every message
+-- was seen. In a `Good` state each is the model's call.
 use Prim.Native.Nat.{ℕ}
 use lib.Dec.{ltb}
 use Rattle.limits.specs.Limits.{Room, clockMax}

@@ -6,7 +6,7 @@ use mathlib.Core.List.{List, [], _∷_, _++_, map}
 use Prim.Native.Nat.{ℕ, suc, _≤_, _<_, min}
 use native.Mathlib.Omega.{arith}
 use lib.ListN.{length}
-use lib.Dec.{leb, ltb}
+use lib.Dec.{leb, ltb, eqb}
 use borrow.Author.Tests.{lt-ltb, le-ltb, leb-false}
 use Rattle.limits.specs.Limits.{Room, clockMax}
 use Rattle.limits.specs.Refusals.{beyondLimit, flightFull}
@@ -29,14 +29,16 @@ use Rattle.payload_queue.specs.Model.{withFlight}
 use Rattle.pending_queue.specs.Fronts.{popped, poppedFrom, popped-none}
 use Rattle.pending_queue.specs.Lifetimes.{unseen, startedEnd, started-rings}
 use Rattle.outbound_queue.specs.Outbound.{Good}
-use Rattle.outbound_queue.specs.Steps.{seenWith, endsStarted}
+use Rattle.outbound_queue.specs.Steps.{seenWith, endsStarted, new-ends}
 use Rattle.outbound_send.specs.Lean.{leanStart, leanSend}
 
 -- ---- in a Good state the ends of the rings are all that was not seen
 
 module _ (now : ℕ) {room : Room} {s : Sender} (g : Good room s) where
   ends-are : endsStarted now s ≡ withLifetimes now s
-  ends-are = ap (λ (p : Pending). seenWith p s) (started-rings now (s .numbers .unstarted) (s .pending) (g .ordered))
+  ends-are =
+      let k = s .numbers .unstarted in
+      ap (λ (p : Pending). seenWith p s) (new-ends now k (s .numbers .next) (s .pending) (g .numbered) ∙ started-rings now k (s .pending) (g .ordered))
 
   pub lean-start : leanStart now s ≡ startLifetimes now s
   unfolding leanStart startLifetimes
@@ -103,6 +105,12 @@ module _ (now k : ℕ) where
       by true = refl
       by false = refl
 
+  -- so too where none is started, since every message was seen: `b`
+  blocked-new : (b : Bool) (p : Pending) (room : ℕ) (f : List Chunk) → blocked (head (inRings (λ (l : List Chunk). if b then l else startedEnd now k l) p)) room f ≡ blocked (head p) room f
+  blocked-new true p room f = refl
+  blocked-new false p room f =
+      ap (λ (x : List Chunk). blocked (first x) room f) (ahead-started (p .underWay) (p .unordered) (p .ordered)) ∙ blocked-by room f (at (headLane p) p)
+
 -- ---- sending
 
 module _ (room : Room) (now : ℕ) (s : Sender) where
@@ -125,8 +133,7 @@ module _ (room : Room) (now : ℕ) (s : Sender) where
     still-blocked : blocked (first (ahead (begun .pending))) (room .flight) (s .flight .entries) ≡ blocked (head (s .pending)) n (s .flight .entries)
     still-blocked =
         let k = s .numbers .unstarted in
-        ap (λ (x : List Chunk). blocked (first x) (room .flight) (s .flight .entries)) (ahead-started now k (s .pending .underWay) (s .pending .unordered) (s .pending .ordered))
-        ∙ blocked-by now k (room .flight) (s .flight .entries) (ahead (s .pending)) ∙ ap (λ (i : ℕ). blocked (head (s .pending)) i (s .flight .entries)) r
+        blocked-new now k (eqb k (s .numbers .next)) (s .pending) (room .flight) (s .flight .entries) ∙ ap (λ (i : ℕ). blocked (head (s .pending)) i (s .flight .entries)) r
 
     module _ (h : now ≤ clockMax) where
       opened : {r : Out Sent} → r ≡ sending (headLane (begun .pending)) (ahead (begun .pending)) room now s begun → r ≡ leanSend room now s

@@ -1,4 +1,4 @@
--- One ring after the other came back.
+-- Every message was seen, or one ring after the other came back.
 use mathlib.Core.Path.{ap, _∙_}
 use mathlib.Core.List.{List}
 use Prim.Native.Nat.{ℕ, _+_, min}
@@ -9,10 +9,15 @@ use Rattle.ring.specs.Held.{held}
 use Rattle.pending_queue.specs.Lifetimes.{startedEnd}
 use Rattle.outbound_queue.specs.declared.OutboundQueue.{OutboundQueue}
 use Rattle.outbound_queue.specs.Outbound.{third, ringsIn, other-ring, both-back, sender-by, counted-by}
-use Rattle.outbound_queue.specs.Steps.{started-rings, started-counted}
+use Rattle.outbound_queue.specs.Steps.{all-seen, started-rings, started-counted}
 use borrow.Author.Needs.{needs}
 use Rattle.outbound_queue.proofs.steps.start_rings.Statement.{statement}
 use Rattle.outbound_queue.proofs.steps.start_rings.Tie as tie
+
+returns : tie.Need-returns
+returns c =
+    let a = c .before .before .before .args in
+    (all-seen (min (a .clock) clockMax) (a .q) (ringsIn (now (a .cells))) (c .if1 .taken), λ h. h)
 
 mul-k : tie.Need-mul-k
 mul-k c = search needs
@@ -50,9 +55,10 @@ start-timed-messages-requires-2 c κs = search needs
 same-length : tie.Need-same-length
 same-length c = search needs
 
-returns : tie.Need-returns
-returns c =
-    let a = c .before .before .before .before .before .before .before .before .before .before .before .args in
+returns-2 : tie.Need-returns-2
+returns-2 c =
+    let a = c .before .before .before .before .before .before .before .before .before .before .before .before .before .args in
+    let d = c .before .before .before .before .before .before .before .before .before .before .if1 .left in
     let q = a .q in
     let one = c .before .before .before .before .before .before .start-timed-messages in
     let two = c .before .before .start-timed-messages2 in
@@ -67,7 +73,7 @@ returns c =
     let f = two .ensures ∙ ap (λ (y : List ℕ). startedEnd m (q .«next_unstarted_message_id») (held (q .pending .ordered) y)) e in
     let seen : OutboundQueue = record { pending = q .pending; inflight = q .inflight; «next_message_id» = q .«next_message_id»; «next_unstarted_message_id» = q .«next_message_id» } in
     let vs = patch k (k + k) (patch 0 k ws u) o in (
-      λ ts. sender-by ts seen vs b ∙ started-rings m q r u o (one .ensures) f ts,
+      λ ts. sender-by ts seen vs b ∙ started-rings m q r u o (one .ensures) f d ts,
       λ h. counted-by seen vs b (started-counted m q r u o (one .ensures) f h),
     )
 
@@ -75,6 +81,7 @@ pub start-rings-spec : {M : Type 1} → statement M
 start-rings-spec =
     tie.close
     (tie.spec
+    returns
     mul-k
     sub-start-timed-messages
     part-start-timed-messages-start
@@ -87,4 +94,4 @@ start-rings-spec =
     part-start-timed-messages-end-2
     start-timed-messages-requires-2
     same-length
-    returns)
+    returns-2)
