@@ -1,10 +1,9 @@
--- Walks over a list by a test, for invariants and for the contracts of private functions; `some-of`, `keep` and `total` are the model's.
-use mathlib.Core.Path.{_≡_, refl, sym, ap, _∙_}
+-- Walks over a list by a test, for invariants and for the contracts of private functions; `some-of` is the model's.
+use mathlib.Core.Path.{_≡_, sym, ap, _∙_}
 use mathlib.Core.Bool.{Bool, true, false, _||_, _&&_}
 use Prim.Native.Nat.{ℕ, _+_}
 use mathlib.Core.List.{List, [], _∷_, map}
-use native.Mathlib.Nat.{zero-add}
-use Rattle.model.specs.Lists.{if_then_else_, some-of, keep, total}
+use Rattle.model.specs.Lists.{if_then_else_, some-of}
 
 module _ {A : Type 0} where
   -- the longest prefix whose elements all pass
@@ -50,13 +49,3 @@ module _ {A : Type 0} (p : A → Bool) {l rest : List A} {x : A} (q : l ≡ x �
 
   pub drop-miss : p x ≡ false → dropWhile p l ≡ l
   drop-miss h = ap (dropWhile p) q ∙ ap (λ (b : Bool). if b then dropWhile p rest else (x ∷ rest)) h ∙ sym q
-
--- ---- a sum over those that pass, as a loop over all of them has it
-module _ {A : Type 0} (p : A → Bool) (w : A → ℕ) where
-  passed : (b : Bool) (x : A) (l : List A) → total w (if b then (x ∷ l) else l) ≡ (if b then w x else 0) + total w l
-  passed true x l = refl
-  passed false x l = sym (zero-add (total w l))
-
-  pub keep-total : (l : List A) → total w (keep p l) ≡ total (λ x. if p x then w x else 0) l
-  keep-total [] = refl
-  keep-total (x ∷ l) = passed (p x) x (keep p l) ∙ ap (λ (n : ℕ). (if p x then w x else 0) + n) (keep-total l)
