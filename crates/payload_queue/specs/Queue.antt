@@ -137,6 +137,10 @@ written ts out = if ltb (length out) (length ts) then out else ts ++ drop (lengt
 abbrev pub Lists : (ts out out′ : List ℕ) → Listed → Type 0
 Lists ts out out′ answer = (answer ≡ listed ts out) × (out′ ≡ written ts out)
 
+-- TSNs are written into a lent list that has places for them: their number is told, they stand at the front, and the rest is as it was
+abbrev pub Writes : (ts out out′ : List ℕ) → (number : ℕ) → Type 0
+Writes ts out out′ n = (n ≡ length ts) × (out′ ≡ ts ++ drop (length ts) out)
+
 -- what is listed: before the bound nothing is looked for
 abbrev pub soughtTsns : (due now : ℕ) → Pending → Flight → List ℕ
 soughtTsns due now w f = if ltb now due then [] else overdueTsns now w f

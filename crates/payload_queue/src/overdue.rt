@@ -8,14 +8,13 @@ use model::Listed;
 use ring::Ring;
 ghost use mathlib.Core.Path.{_≡_};
 ghost use mathlib.Core.Bool.{true};
-ghost use mathlib.Core.List.{_++_};
 ghost use Prim.Native.Nat.{_+_, _≤_, _<_};
-ghost use lib.ListN.{length, set, drop};
+ghost use lib.ListN.{length, set};
 ghost use lib.Dec.{ltb};
 ghost use Rattle.model.specs.Lists.{if_then_else_};
 ghost use Rattle.rows.specs.Walks.{count};
 ghost use Rattle.ring.specs.Held.{held};
-ghost use Rattle.payload_queue.specs.Queue.{Finds, isAwaited, leastDue, overdueEntry, overdueTsns};
+ghost use Rattle.payload_queue.specs.Queue.{Finds, isAwaited, leastDue, overdueEntry, overdueTsns, Writes};
 
 // The queue, whose bound may be another, and the answer.
 pub struct Overdue {
@@ -105,7 +104,7 @@ fn list_all(
     out: &mut [u32],
 ) -> usize
     requires { ⌜ count (overdueEntry clock pending) (held ring (now cells)) ≤ length (now out) ⌝ }
-    ensures { λ r. ⌜ (r ≡ length (overdueTsns clock pending (record { oldest = oldest; entries = held ring (now (cells .entry)) }))) × (now (out .exit) ≡ overdueTsns clock pending (record { oldest = oldest; entries = held ring (now (cells .entry)) }) ++ drop (length (overdueTsns clock pending (record { oldest = oldest; entries = held ring (now (cells .entry)) }))) (now (out .entry))) ⌝ }
+    ensures { λ r. ⌜ Writes (overdueTsns clock pending (record { oldest = oldest; entries = held ring (now (cells .entry)) })) (now (out .entry)) (now (out .exit)) r ⌝ }
 {
     let n = ring::count(ring, cells);
     let mut tsn = oldest;

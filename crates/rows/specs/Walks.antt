@@ -1,10 +1,9 @@
--- Walks over a list by a test, for invariants and for the contracts of private functions; `some-of`, `keep` and `total` are the model's.
+-- Walks over a list by a test, for invariants and for the contracts of private functions; `some-of` is the model's.
 use mathlib.Core.Path.{_≡_, refl, sym, ap, _∙_}
 use mathlib.Core.Bool.{Bool, true, false, _||_, _&&_, or-assoc}
 use Prim.Native.Nat.{ℕ, _+_}
 use mathlib.Core.List.{List, [], _∷_, _++_, map}
-use native.Mathlib.Nat.{zero-add}
-use Rattle.model.specs.Lists.{if_then_else_, some-of, keep, total}
+use Rattle.model.specs.Lists.{if_then_else_, some-of}
 
 module _ {A : Type 0} where
   -- the longest prefix whose elements all pass
@@ -55,13 +54,3 @@ module _ {A : Type 0} (p : A → Bool) {l rest : List A} {x : A} (q : l ≡ x �
 pub some-in : {A : Type 0} (p : A → Bool) (l m : List A) {r : Bool} → r ≡ some-of p l → (r || some-of p m) ≡ some-of p (l ++ m)
 some-in p [] m e = ap (λ (b : Bool). b || some-of p m) e
 some-in p (x ∷ l) m e = ap (λ (b : Bool). b || some-of p m) e ∙ or-assoc (p x) (some-of p l) (some-of p m) ∙ ap (λ (b : Bool). p x || b) (some-in p l m refl)
-
--- ---- a sum over those that pass, as a loop over all of them has it
-module _ {A : Type 0} (p : A → Bool) (w : A → ℕ) where
-  passed : (b : Bool) (x : A) (l : List A) → total w (if b then (x ∷ l) else l) ≡ (if b then w x else 0) + total w l
-  passed true x l = refl
-  passed false x l = sym (zero-add (total w l))
-
-  pub keep-total : (l : List A) → total w (keep p l) ≡ total (λ x. if p x then w x else 0) l
-  keep-total [] = refl
-  keep-total (x ∷ l) = passed (p x) x (keep p l) ∙ ap (λ (n : ℕ). (if p x then w x else 0) + n) (keep-total l)
