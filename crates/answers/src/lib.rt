@@ -37,15 +37,20 @@ fn payload(out: &mut [u8], at: usize, offset: u64, length: u32) -> usize {
     if length == 0 {
         return lines::text(out, at, b" off=- len=0");
     }
-    let place = lines::number(out, at, b" off=", offset);
-    lines::number(out, place, b" len=", length as u64)
+    let values = [offset, length as u64];
+    lines::numbers(out, at, b" off= len=", &values)
 }
 
 fn head_of(out: &mut [u8], at: usize, tsn: u32, chunk: Chunk) -> usize {
-    let p1 = lines::number(out, at, b"tsn=", tsn as u64);
-    let p2 = lines::number(out, p1, b" sid=", chunk.message.stream as u64);
-    let p3 = lines::number(out, p2, b" ssn=", chunk.message.ssn as u64);
-    lines::number(out, p3, b" flags=", stream::flags::octet(chunk) as u64)
+    let message = chunk.message;
+    let flags = stream::flags::octet(chunk);
+    let values = [
+        tsn as u64,
+        message.stream as u64,
+        message.ssn as u64,
+        flags as u64,
+    ];
+    lines::numbers(out, at, b"tsn= sid= ssn= flags=", &values)
 }
 
 fn message_of(out: &mut [u8], at: usize, chunk: Chunk) -> usize {
@@ -61,12 +66,15 @@ fn message_of(out: &mut [u8], at: usize, chunk: Chunk) -> usize {
 
 fn sending_of(out: &mut [u8], at: usize, chunk: Chunk) -> usize {
     let since = chunk.since;
-    let p1 = lines::moment(out, at, b" since=", since);
-    let p2 = lines::number(out, p1, b" nsent=", chunk.nsent as u64);
-    let p3 = lines::flag(out, p2, b" acked=", chunk.acked);
-    let p4 = lines::flag(out, p3, b" aband=", chunk.abandoned);
-    let p5 = lines::flag(out, p4, b" retx=", chunk.retransmit);
-    lines::text(out, p5, b" miss=0\n")
+    let place = lines::moment(out, at, b" since=", since);
+    let values = [
+        chunk.nsent as u64,
+        chunk.acked as u64,
+        chunk.abandoned as u64,
+        chunk.retransmit as u64,
+        0,
+    ];
+    lines::numbers(out, place, b" nsent= acked= aband= retx= miss=\n", &values)
 }
 
 pub fn chunk(out: &mut [u8], at: usize, tsn: u32, chunk: Chunk) -> usize {
@@ -79,24 +87,29 @@ pub fn chunk(out: &mut [u8], at: usize, tsn: u32, chunk: Chunk) -> usize {
 
 fn settings_of(out: &mut [u8], at: usize, stream: Stream) -> usize {
     let kept = stream.reliability;
-    let p1 = lines::number(out, at, b"sid=", stream.identifier as u64);
-    let p2 = lines::number(out, p1, b" m=", stream.maximum as u64);
-    let p3 = lines::number(out, p2, b" ssn=", stream.ssn as u64);
-    let p4 = lines::flag(out, p3, b" u=", stream.unordered);
-    reliability(out, p4, kept)
+    let values = [
+        stream.identifier as u64,
+        stream.maximum as u64,
+        stream.ssn as u64,
+        stream.unordered as u64,
+    ];
+    let place = lines::numbers(out, at, b"sid= m= ssn= u=", &values);
+    reliability(out, place, kept)
 }
 
 fn amounts_of(out: &mut [u8], at: usize, stream: Stream) -> usize {
     let sent = stream.statistics;
-    let p1 = lines::number(out, at, b" buf=", stream.buffered as u64);
-    let p2 = lines::number(out, p1, b" low=", stream.low);
-    let p3 = lines::number(out, p2, b" high=", stream.high);
-    let p4 = lines::number(out, p3, b" msgs=", sent.messages);
-    lines::number(out, p4, b" bytes=", sent.bytes)
+    let values = [
+        stream.buffered as u64,
+        stream.low,
+        stream.high,
+        sent.messages,
+        sent.bytes,
+    ];
+    lines::numbers(out, at, b" buf= low= high= msgs= bytes=\n", &values)
 }
 
 pub fn stream(out: &mut [u8], at: usize, stream: Stream) -> usize {
-    let p1 = settings_of(out, at, stream);
-    let p2 = amounts_of(out, p1, stream);
-    lines::line(out, p2)
+    let place = settings_of(out, at, stream);
+    amounts_of(out, place, stream)
 }

@@ -29,9 +29,8 @@ fn done(out: &mut [u8], at: usize, answer: Done) -> usize {
 fn written(out: &mut [u8], at: usize, length: u64, answer: Written) -> usize {
     match answer {
         Written::Accepted(high) => {
-            let p1 = lines::number(out, at, b"ok len=", length);
-            let p2 = lines::flag(out, p1, b" high=", high);
-            lines::line(out, p2)
+            let values = [length, high as u64];
+            lines::numbers(out, at, b"ok len= high=\n", &values)
         }
         Written::Refused(n) => lines::refusal(out, at, n),
     }
@@ -40,8 +39,8 @@ fn written(out: &mut [u8], at: usize, length: u64, answer: Written) -> usize {
 fn released(out: &mut [u8], at: usize, answer: Released) -> usize {
     match answer {
         Released::Told(low) => {
-            let p1 = lines::flag(out, at, b"ok low=", low);
-            lines::line(out, p1)
+            let values = [low as u64];
+            lines::numbers(out, at, b"ok low=\n", &values)
         }
         Released::Refused(n) => lines::refusal(out, at, n),
     }
@@ -62,10 +61,8 @@ fn expired(out: &mut [u8], at: usize, answer: Expired) -> usize {
             unordered,
             bytes,
         } => {
-            let p1 = lines::number(out, at, b"sid=", stream as u64);
-            let p2 = lines::flag(out, p1, b" u=", unordered);
-            let p3 = lines::number(out, p2, b" bytes=", bytes);
-            lines::line(out, p3)
+            let values = [stream as u64, unordered as u64, bytes];
+            lines::numbers(out, at, b"sid= u= bytes=\n", &values)
         }
         Expired::Nothing => lines::none(out, at),
         Expired::Refused(n) => lines::refusal(out, at, n),
@@ -79,10 +76,8 @@ fn tail_expired(out: &mut [u8], at: usize, answer: TailExpired) -> usize {
             number,
             bytes,
         } => {
-            let p1 = lines::number(out, at, b"sid=", stream as u64);
-            let p2 = lines::number(out, p1, b" msg=", number);
-            let p3 = lines::number(out, p2, b" bytes=", bytes);
-            lines::line(out, p3)
+            let values = [stream as u64, number, bytes];
+            lines::numbers(out, at, b"sid= msg= bytes=\n", &values)
         }
         TailExpired::Nothing => lines::none(out, at),
         TailExpired::Refused(n) => lines::refusal(out, at, n),
@@ -92,9 +87,8 @@ fn tail_expired(out: &mut [u8], at: usize, answer: TailExpired) -> usize {
 fn abandoned(out: &mut [u8], at: usize, answer: Abandoned) -> usize {
     match answer {
         Abandoned::Message { stream, bytes } => {
-            let p1 = lines::number(out, at, b"sid=", stream as u64);
-            let p2 = lines::number(out, p1, b" bytes=", bytes);
-            lines::line(out, p2)
+            let values = [stream as u64, bytes];
+            lines::numbers(out, at, b"sid= bytes=\n", &values)
         }
         Abandoned::Nothing => lines::none(out, at),
     }
@@ -109,11 +103,6 @@ fn found(out: &mut [u8], at: usize, tsn: u32, answer: Found) -> usize {
 
 fn number(out: &mut [u8], at: usize, n: u64) -> usize {
     let p1 = lines::number(out, at, b"", n);
-    lines::line(out, p1)
-}
-
-fn yes_no(out: &mut [u8], at: usize, yes: bool) -> usize {
-    let p1 = lines::flag(out, at, b"", yes);
     lines::line(out, p1)
 }
 
@@ -168,7 +157,7 @@ fn said(out: &mut [u8], at: usize, given: u64, answer: Answer) -> usize {
         Answer::ToFind(says) => found(out, at, (given % 4_294_967_296) as u32, says),
         Answer::ToSeek(says) => earliest(out, at, says),
         Answer::Number(n) => number(out, at, n),
-        Answer::YesNo(yes) => yes_no(out, at, yes),
+        Answer::YesNo(yes) => number(out, at, yes as u64),
         _ => lines::bad(out, at),
     }
 }
@@ -291,17 +280,14 @@ pub fn set_buffered(
     }
 }
 
-pub fn counts(h: Head, cells: &[u64], out: &mut [u8], at: usize, label: &[u8]) -> usize {
-    let p1 = lines::number(out, at, label, sender_asks::pending_length(h, cells) as u64);
-    let p2 = lines::number(out, p1, b" pbytes=", sender_asks::pending_bytes(h));
-    let p3 = lines::number(
-        out,
-        p2,
-        b" flen=",
+pub fn counts(h: Head, cells: &[u64], out: &mut [u8], at: usize, pattern: &[u8]) -> usize {
+    let values = [
+        sender_asks::pending_length(h, cells) as u64,
+        sender_asks::pending_bytes(h),
         sender_asks::inflight_length(h, cells) as u64,
-    );
-    let p4 = lines::number(out, p3, b" fbytes=", sender_asks::inflight_bytes(h));
-    lines::line(out, p4)
+        sender_asks::inflight_bytes(h),
+    ];
+    lines::numbers(out, at, pattern, &values)
 }
 
 // What a call answered.

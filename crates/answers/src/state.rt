@@ -85,17 +85,18 @@ fn rings(h: Head, cells: &[u64], out: &mut [u8], at: usize) -> usize {
 }
 
 fn numbers(h: Head, cells: &[u64], out: &mut [u8], at: usize) -> usize {
-    let next_tsn = sender_asks::next_tsn(h, cells);
-    let unseen = h.queue.next_unstarted_message_id;
-    let p1 = lines::number(out, at, b"sender next_tsn=", next_tsn as u64);
-    let p2 = lines::number(out, p1, b" next_msg=", sender_asks::next_message(h));
-    let p3 = lines::number(out, p2, b" next_unseen=", unseen);
-    under_way(h, cells, out, p3)
+    let values = [
+        sender_asks::next_tsn(h, cells) as u64,
+        sender_asks::next_message(h),
+        h.queue.next_unstarted_message_id,
+    ];
+    let place = lines::numbers(out, at, b"sender next_tsn= next_msg= next_unseen=", &values);
+    under_way(h, cells, out, place)
 }
 
 pub fn whole(h: Head, cells: &[u64], out: &mut [u8], at: usize) -> usize {
     let p1 = numbers(h, cells, out, at);
-    let p2 = super::sender::counts(h, cells, out, p1, b" plen=");
+    let p2 = super::sender::counts(h, cells, out, p1, b" plen= pbytes= flen= fbytes=\n");
     let p3 = streams(h, cells, out, p2);
     rings(h, cells, out, p3)
 }

@@ -92,10 +92,8 @@ fn told(out: &mut [u8], at: usize, answer: Expiry) -> usize {
             failure,
             count,
         } => {
-            let p1 = lines::flag(out, at, b"expired=", expired);
-            let p2 = lines::flag(out, p1, b" failure=", failure);
-            let p3 = lines::number(out, p2, b" count=", count as u64);
-            lines::line(out, p3)
+            let values = [expired as u64, failure as u64, count as u64];
+            lines::numbers(out, at, b"expired= failure= count=\n", &values)
         }
         Expiry::Refused(n) => lines::refusal(out, at, n),
     }
@@ -228,10 +226,10 @@ fn made_estimator(old: RtoManager, out: &mut [u8], at: usize, made: Made) -> Est
 fn measured(old: RtoManager, out: &mut [u8], at: usize, answer: Measured) -> Estimator {
     match answer {
         Measured::Srtt(srtt, manager) => {
-            let p1 = lines::number(out, at, b"srtt=", srtt);
+            let values = [srtt];
             Estimator {
                 manager: manager,
-                at: lines::line(out, p1),
+                at: lines::numbers(out, at, b"srtt=\n", &values),
             }
         }
         Measured::Refused(n) => Estimator {
@@ -290,8 +288,8 @@ fn entry(out: &mut [u8], at: usize, name: &[u8], entry: Entry) -> usize {
     let p2 = lines::moment(out, p1, b" deadline=", deadline);
     let p3 = lines::number(out, p2, b" count=", entry.retrans as u64);
     let p4 = maximum(out, p3, most);
-    let p5 = lines::flag(out, p4, b" suppressed=", entry.suppressed);
-    lines::line(out, p5)
+    let values = [entry.suppressed as u64];
+    lines::numbers(out, p4, b" suppressed=\n", &values)
 }
 
 fn first_three(table: TimerTable, out: &mut [u8], at: usize) -> usize {
@@ -307,10 +305,10 @@ fn last_three(table: TimerTable, out: &mut [u8], at: usize) -> usize {
 }
 
 pub fn timers_state(table: TimerTable, out: &mut [u8], at: usize) -> usize {
-    let p1 = lines::number(out, at, b"timers rto_max=", table.rto_max as u64);
-    let p2 = lines::line(out, p1);
-    let p3 = first_three(table, out, p2);
-    last_three(table, out, p3)
+    let values = [table.rto_max as u64];
+    let p1 = lines::numbers(out, at, b"timers rto_max=\n", &values);
+    let p2 = first_three(table, out, p1);
+    last_three(table, out, p2)
 }
 
 // Sixteen hexadecimal digits.
@@ -334,16 +332,18 @@ fn spread(out: &mut [u8], at: usize, rttvar: f64) -> usize {
 }
 
 fn bounds(out: &mut [u8], at: usize, manager: RtoManager) -> usize {
-    let p1 = lines::number(out, at, b" initial=", manager.rto_initial);
-    let p2 = lines::number(out, p1, b" min=", manager.rto_min);
-    let p3 = lines::number(out, p2, b" max=", manager.rto_max);
-    lines::line(out, p3)
+    let values = [
+        manager.no_update as u64,
+        manager.rto_initial,
+        manager.rto_min,
+        manager.rto_max,
+    ];
+    lines::numbers(out, at, b" no_update= initial= min= max=\n", &values)
 }
 
 pub fn estimate(out: &mut [u8], at: usize, manager: RtoManager) -> usize {
-    let p1 = lines::number(out, at, b"rto=", manager.rto);
-    let p2 = lines::number(out, p1, b" srtt=", manager.srtt);
-    let p3 = spread(out, p2, manager.rttvar);
-    let p4 = lines::flag(out, p3, b" no_update=", manager.no_update);
-    bounds(out, p4, manager)
+    let values = [manager.rto, manager.srtt];
+    let p1 = lines::numbers(out, at, b"rto= srtt=", &values);
+    let p2 = spread(out, p1, manager.rttvar);
+    bounds(out, p2, manager)
 }

@@ -2,6 +2,7 @@
 // output and begun anew, so that a run of lines costs few calls of the system.
 use libc::STDOUT_FILENO;
 use limits::Moment;
+ghost use Prim.Native.Nat.{_+_, _≤_, _<_};
 
 // ---- the buffer
 
@@ -61,12 +62,39 @@ pub fn number(out: &mut [u8], at: usize, label: &[u8], n: u64) -> usize {
     decimal(out, place, n)
 }
 
-pub fn flag(out: &mut [u8], at: usize, label: &[u8], yes: bool) -> usize {
-    let place = text(out, at, label);
-    if yes {
-        return byte(out, place, b'1');
+// The i-th of the numbers, behind a `=`.
+fn value(out: &mut [u8], at: usize, letter: u8, values: &[u64], i: usize) -> usize {
+    if letter == b'=' {
+        if i < values.len() {
+            return decimal(out, at, values[i]);
+        }
     }
-    byte(out, place, b'0')
+    at
+}
+
+fn next_value(letter: u8, i: usize) -> usize
+    requires { ⌜ i < 18446744073709551615 ⌝ }
+    ensures { λ r. ⌜ r ≤ i + 1 ⌝ }
+{
+    if letter == b'=' {
+        return i + 1;
+    }
+    i
+}
+
+// The pattern, with the next of the numbers behind each `=`.
+pub fn numbers(out: &mut [u8], at: usize, pattern: &[u8], values: &[u64]) -> usize {
+    let mut place = at;
+    let mut next = 0;
+    let mut i = 0;
+    while i < pattern.len() {
+        let letter = pattern[i];
+        place = byte(out, place, letter);
+        place = value(out, place, letter, values, next);
+        next = next_value(letter, next);
+        i += 1;
+    }
+    place
 }
 
 // A missing moment is a dash.

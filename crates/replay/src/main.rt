@@ -85,7 +85,13 @@ fn asked(h: Head, cells: &mut [u64], out: &mut [u8], at: usize, command: Command
         Command::ListWithin { clock, room } => {
             answers::sender::expired_within(h, cells, out, at, clock, room)
         }
-        Command::Counts => answers::sender::counts(h, cells, out, at, b"plen="),
+        Command::Counts => answers::sender::counts(
+            h,
+            cells,
+            out,
+            at,
+            b"plen= pbytes= flen= fbytes=\n",
+        ),
         Command::Stream { identifier } => answers::sender::stream(h, cells, out, at, identifier),
         Command::SetBuffered { identifier, amount } => {
             answers::sender::set_buffered(h, cells, out, at, identifier, amount)
