@@ -1,4 +1,5 @@
 //! Times parts of a run, and takes the answers in.
+use std::arch::asm;
 use std::hint::black_box;
 use std::sync::OnceLock;
 use std::time::{Duration, Instant};
@@ -56,6 +57,17 @@ impl Stopwatch {
     pub fn finish(self) -> Timed {
         let nanos = self.elapsed.as_nanos() as f64 - self.blocks as f64 * reading_cost();
         Timed { nanos: nanos.max(0.0) / self.calls as f64, answers: black_box(self.answers.0) }
+    }
+}
+
+/// The same, of which the compiler knows nothing any more, so that it makes every call. std's `black_box` would do too, but it stores the address and
+/// loads it again, and that load waits for what the call before has stored.
+pub fn anew<T>(it: &mut T) -> &mut T {
+    let mut address: *mut T = it;
+    // SAFETY: the text is empty, so the address stays what it was, that of `it`.
+    unsafe {
+        asm!("/* {} */", inout(reg) address, options(nostack, preserves_flags));
+        &mut *address
     }
 }
 

@@ -1,9 +1,8 @@
 //! What expires or is abandoned, and the lifetimes that lead there.
-use std::hint::black_box;
 
 use super::{FRAGMENT, Job, LATE, LENGTH, LIFETIME, filled, leave, pending};
 use crate::side::{Bytes, FIRST_TSN, Side};
-use crate::stopwatch::{Answers, Stopwatch, Timed};
+use crate::stopwatch::{Answers, Stopwatch, Timed, anew};
 
 #[derive(Clone, Copy, PartialEq, Eq)]
 pub enum Traffic {
@@ -55,7 +54,7 @@ impl Job for HostRound {
         let now = side.time(1);
         watch.time(repetitions, |answers| {
             for turn in 0..repetitions as u32 {
-                self.turn(black_box(&mut side), now, FIRST_TSN.wrapping_add(turn), answers);
+                self.turn(anew(&mut side), now, FIRST_TSN.wrapping_add(turn), answers);
             }
         });
         watch.answers.number((side.in_flight() << 16 ^ side.pending()) as u64);
@@ -180,7 +179,7 @@ impl Job for Expired {
         let due = side.expired(now);
         (0..due).for_each(|i| watch.answers.number(side.listed(i).into()));
         watch.time(repetitions, |answers| {
-            (0..repetitions).for_each(|_| answers.number(black_box(&mut side).expired(now) as u64));
+            (0..repetitions).for_each(|_| answers.number(anew(&mut side).expired(now) as u64));
         });
         watch.finish()
     }
@@ -284,7 +283,7 @@ impl Job for NothingNew {
         let mut side: S = pending(self.messages);
         let now = side.time(1);
         side.start_lifetimes(now);
-        watch.time(repetitions, |_| (0..repetitions).for_each(|_| black_box(&mut side).start_lifetimes(now)));
+        watch.time(repetitions, |_| (0..repetitions).for_each(|_| anew(&mut side).start_lifetimes(now)));
         watch.answers.freed(side.expire_pending(side.time(LATE)));
         watch.finish()
     }

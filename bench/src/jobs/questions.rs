@@ -1,9 +1,8 @@
 //! What is asked of a sender, and the one call that goes over the whole flight and frees nothing.
-use std::hint::black_box;
 
 use super::{Job, filled, pending};
 use crate::side::{Bytes, FIRST_TSN, Side};
-use crate::stopwatch::{Answers, Stopwatch, Timed};
+use crate::stopwatch::{Answers, Stopwatch, Timed, anew};
 
 #[derive(Clone, Copy, PartialEq, Eq)]
 pub enum Question {
@@ -75,12 +74,12 @@ impl Job for Ask {
     }
     fn run<S: Side>(&self, repetitions: usize) -> Timed {
         let mut watch = Stopwatch::default();
-        let side: S = self.prepare(&mut watch.answers);
+        let mut side: S = self.prepare(&mut watch.answers);
         let last = FIRST_TSN.wrapping_add(self.messages as u32 - 1);
         watch.time(repetitions, |answers| {
             let mut tsn = FIRST_TSN;
             for _ in 0..repetitions {
-                self.question.ask(black_box(&side), tsn, answers);
+                self.question.ask(anew(&mut side), tsn, answers);
                 tsn = if tsn == last { FIRST_TSN } else { tsn.wrapping_add(1) };
             }
         });
@@ -103,7 +102,7 @@ impl Job for MarkAll {
     fn run<S: Side>(&self, repetitions: usize) -> Timed {
         let mut watch = Stopwatch::default();
         let mut side: S = filled(0, self.flight, Bytes::AsTheCallsAre, &mut watch.answers);
-        watch.time(repetitions, |_| (0..repetitions).for_each(|_| black_box(&mut side).mark_all()));
+        watch.time(repetitions, |_| (0..repetitions).for_each(|_| anew(&mut side).mark_all()));
         (0..self.flight as u32).for_each(|i| watch.answers.flag(side.is_marked(FIRST_TSN.wrapping_add(i))));
         watch.finish()
     }

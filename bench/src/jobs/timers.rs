@@ -1,9 +1,8 @@
 //! The timers and the round-trip estimator.
-use std::hint::black_box;
 
 use super::Job;
 use crate::side::{Clockwork, Side};
-use crate::stopwatch::{Answers, Stopwatch, Timed};
+use crate::stopwatch::{Answers, Stopwatch, Timed, anew};
 
 const T1_INIT: usize = 0;
 const T3_RTX: usize = 3;
@@ -62,7 +61,7 @@ impl Job for TimerJob {
         watch.time(repetitions, |answers| {
             for turn in 0..repetitions {
                 let i = turn % TIMES;
-                self.turn(black_box(&mut timers), turn, now[i], late[i], answers);
+                self.turn(anew(&mut timers), turn, now[i], late[i], answers);
             }
         });
         for others in [[].as_slice(), &[T1_INIT, ACK]] {
