@@ -20,3 +20,6 @@ pub mod Lost
 pub mod Rest
 pub mod Waiting
 pub mod Demand3
+pub mod Gaps
+pub mod Sacks
+pub mod Requests

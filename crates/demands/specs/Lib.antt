@@ -7,3 +7,5 @@ pub mod States
 pub mod Numbers
 pub mod Rfc9260
 pub mod Refusals
+pub mod Sacks
+pub mod Requests

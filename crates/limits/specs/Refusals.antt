@@ -52,3 +52,11 @@ listShort = 11
 -- an expiry that would be counted finds the timer's count at its limit
 abbrev pub countFull : ℕ
 countFull = 12
+
+-- the bytes are no SACK
+abbrev pub badSack : ℕ
+badSack = 13
+
+-- a block of a SACK that is not stale has start 0, its start above its end, or its end beyond the newest entry
+abbrev pub badBlock : ℕ
+badBlock = 14

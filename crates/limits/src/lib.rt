@@ -41,6 +41,10 @@ pub const FLIGHT_FULL: u8 = 10;
 pub const LIST_SHORT: u8 = 11;
 // An expiry that would be counted finds the timer's count at its limit.
 pub const COUNT_FULL: u8 = 12;
+// The bytes are no SACK: under 16 of them, the type is wrong, or the length field is not 16 plus 4 for each block and duplicate, or not the bytes lent.
+pub const BAD_SACK: u8 = 13;
+// A block of a SACK that is not stale has start 0, its start above its end, or its end beyond the newest entry.
+pub const BAD_BLOCK: u8 = 14;
 
 // A moment of the clock, in milliseconds, that may be missing: a deadline, or the time of a send.
 pub enum Moment {

@@ -9,4 +9,7 @@ pub mod Rings
 pub mod Flight
 pub mod Told
 pub mod Calls
+pub mod Sack
+pub mod Sacks
+pub mod Requests
 pub mod Scenes

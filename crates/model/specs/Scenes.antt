@@ -3,12 +3,13 @@
 use Prim.Native.Nat.{ℕ}
 use mathlib.Core.Bool.{Bool, true, false}
 use mathlib.Core.Path.{_≡_}
-use mathlib.Core.List.{List, [], _∷_}
+use mathlib.Core.List.{List, [], _∷_, _++_}
 use Rattle.limits.specs.Limits.{Room}
 use Rattle.model.specs.declared.Abandoned.{Abandoned}
 use Rattle.model.specs.declared.Chunk.{Chunk}
 use Rattle.model.specs.declared.Expired.{Expired}
 use Rattle.model.specs.declared.Found.{Found}
+use Rattle.model.specs.declared.Sacked.{Sacked}
 use Rattle.model.specs.declared.Sent.{Sent}
 use Rattle.model.specs.declared.TailExpired.{TailExpired}
 use Rattle.model.specs.State.{Sender, fresh}
@@ -46,6 +47,7 @@ use Rattle.model.specs.Calls.{
 }
 use Rattle.model.specs.Rings.{tsnsAre, refused}
 use Rattle.model.specs.Lists.{if_then_else_}
+use Rattle.model.specs.Sacks.{sack}
 
 abbrev pub small : Room
 small = record { streams = 2; message = 12; ring = 4; flight = 4 }
@@ -188,14 +190,62 @@ tail =
     ∷ (Send 15 gives 0 ∷ [])
     ∷ []
 
+-- ---- SACKs
+
+-- a SACK's bytes: how many they are, the four of the cumulative TSN, how many blocks there are, and these
+abbrev pub bytesOfSack : (length : ℕ) → (cumulative : List ℕ) → (count : ℕ) → (blocks : List ℕ) → List ℕ
+bytesOfSack n t k l = 3 ∷ 0 ∷ 0 ∷ n ∷ (t ++ 0 ∷ 0 ∷ 0 ∷ 0 ∷ 0 ∷ k ∷ 0 ∷ 0 ∷ l)
+
+-- 1 and the bytes released; 0 for a stale one; 99 and its number for a refusal
+abbrev pub sackedRow : Sacked → List ℕ
+sackedRow (Sacked.Released b) = 1 ∷ b ∷ []
+sackedRow Sacked.Stale = 0 ∷ []
+sackedRow (Sacked.Refused n) = 99 ∷ n ∷ []
+
+-- a packet and what it should answer
+pub record Read : Type 0 where
+  pub packet : List ℕ
+  pub row : List ℕ
+
+-- the same packets with what the model answers, from a state on
+abbrev pub reading : List Read → Sender → List Read
+reading [] s = []
+reading (x ∷ l) s =
+    record { packet = x .packet; row = sackedRow (sack small (x .packet) s .says) } ∷ reading l (sack small (x .packet) s .after)
+
+infix 1 _answers_
+abbrev pub _answers_ : List ℕ → List ℕ → Read
+p answers l = record { packet = p; row = l }
+
+-- Three chunks of 3 bytes are in flight, whose TSNs pass 2 ^ 32: 4294967294, 4294967295 and 0. A byte too few is no SACK; one whose cumulative
+-- TSN is two before the oldest is stale, bad block or not; a block may not start at 0 nor reach beyond the newest; of two blocks that overlap
+-- each entry is released once, and not again by the next SACK, which pops all; then every SACK is stale.
+abbrev pub acknowledgedInGaps : List Read
+acknowledgedInGaps =
+    (3 ∷ 0 ∷ 0 ∷ 16 ∷ 255 ∷ 255 ∷ 255 ∷ 253 ∷ 0 ∷ 0 ∷ 0 ∷ 0 ∷ 0 ∷ 0 ∷ 0 ∷ [] answers 99 ∷ 13 ∷ [])
+    ∷ (bytesOfSack 20 (255 ∷ 255 ∷ 255 ∷ 252 ∷ []) 1 (0 ∷ 0 ∷ 0 ∷ 1 ∷ []) answers 0 ∷ [])
+    ∷ (bytesOfSack 20 (255 ∷ 255 ∷ 255 ∷ 253 ∷ []) 1 (0 ∷ 0 ∷ 0 ∷ 1 ∷ []) answers 99 ∷ 14 ∷ [])
+    ∷ (bytesOfSack 20 (255 ∷ 255 ∷ 255 ∷ 254 ∷ []) 1 (0 ∷ 2 ∷ 0 ∷ 3 ∷ []) answers 99 ∷ 14 ∷ [])
+    ∷ (bytesOfSack 24 (255 ∷ 255 ∷ 255 ∷ 253 ∷ []) 2 (0 ∷ 2 ∷ 0 ∷ 3 ∷ 0 ∷ 3 ∷ 0 ∷ 3 ∷ []) answers 1 ∷ 6 ∷ [])
+    ∷ (bytesOfSack 16 (0 ∷ 0 ∷ 0 ∷ 0 ∷ []) 0 [] answers 1 ∷ 3 ∷ [])
+    ∷ (bytesOfSack 16 (0 ∷ 0 ∷ 0 ∷ 0 ∷ []) 0 [] answers 0 ∷ [])
+    ∷ []
+
+-- ---- the claim
+
 -- from the opened sender on, with first TSN 7 and first message number 0, a scene goes as written
 abbrev pub Goes : List Said → Type 0
 Goes l = played l (run small opening (fresh 7 0)) ≡ l
 
--- The claim: every scene does.
+-- three chunks of stream 1 are in flight, the first with the TSN before the last
+abbrev pub threeSent : Sender
+threeSent = run small (Write 1 53 0 9 ∷ Send 0 ∷ Send 0 ∷ Send 0 ∷ []) (run small opening (fresh 4294967294 0))
+
+-- Every scene does.
 pub record Scenes : Type 0 where
   pub cutOff : Goes cutOff
   pub whollySent : Goes whollySent
   pub fullFlight : Goes fullFlight
   pub expiry : Goes expiry
   pub tail : Goes tail
+  pub acknowledgedInGaps : reading acknowledgedInGaps threeSent ≡ acknowledgedInGaps

@@ -20,6 +20,7 @@ use Rattle.model.specs.declared.Listed.{Listed}
 use Rattle.model.specs.declared.Earliest.{Earliest}
 use Rattle.model.specs.declared.Amount.{Amount}
 use Rattle.model.specs.declared.Counted.{Counted}
+use Rattle.model.specs.declared.Sacked.{Sacked}
 use Rattle.model.specs.Rings.{Listing, tsnsAre, refused}
 
 -- ---- done, yes and no, numbers
@@ -116,3 +117,9 @@ toldAbandoned a = tells (valuesOfAbandoned a)
 abbrev pub toldListing : Listing → Told
 toldListing (tsnsAre l) = tells (length l ∷ l)
 toldListing (refused n) = refusing n
+
+-- a SACK: the bytes released; nothing where it is stale
+abbrev pub toldSacked : Sacked → Told
+toldSacked (Sacked.Released b) = tellsNumber b
+toldSacked Sacked.Stale = tells []
+toldSacked (Sacked.Refused n) = refusing n

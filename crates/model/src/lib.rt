@@ -145,3 +145,16 @@ pub enum Counted {
     Are(Statistics),
     Refused(u8),
 }
+
+// A gap block of a SACK: it acknowledges the TSNs from `start` to `end` behind the cumulative one.
+pub struct Block {
+    pub start: u16,
+    pub end: u16,
+}
+
+// Reading a SACK: the bytes that were released.
+pub enum Sacked {
+    Released(u64),
+    Stale,
+    Refused(u8),
+}

@@ -16,7 +16,7 @@ use Rattle.model.specs.Flight.{found, hasStream}
 use Rattle.rows.specs.Parts.{part}
 use Rattle.rows.specs.Turns.{nil-of}
 use Rattle.rows.specs.Walks.{some-in}
-use Rattle.rows.specs.Rounds.{cellOf, cell-low, round, round-length, round-get, round-set, round-adjust, round-push, round-pop, round-parts}
+use Rattle.rows.specs.Rounds.{cellOf, cell-low, round, round-length, round-get, round-set, round-adjust, round-push, round-drop, round-parts}
 use Rattle.cells.specs.Slots.{roomOf, limit, length-slots}
 use Rattle.chunk_slot.specs.Chunks.{chunkIn, chunks, blankChunk}
 use Rattle.ring.specs.declared.Ring.{Ring}
@@ -68,15 +68,15 @@ module _ (r : Ring) (ws : List ℕ) {n cap s : ℕ} (e : n ≡ length (held r ws
   held-stream id h =
       some-in (λ (c : Chunk). eqb (c .message .stream) id) (part s (s + n) (chunks ws)) (part 0 (n - (cap - s)) (chunks ws)) h ∙ ap (hasStream id) (sym held-parts)
 
--- ---- one more, one less
+-- ---- one more, some less
 
 -- a longer ring whose last is set
 pub held-push : (r : Ring) (ws : List ℕ) (c : Chunk) → r .len < roomOf ws → set (held (record { start = r .start; len = r .len + 1 }) ws) (r .len) c ≡ held r ws ++ (c ∷ [])
 held-push r ws c h = round-push (roomOf ws) (r .start) (r .len) (chunks ws) (length-slots chunkIn ws) c h
 
--- the next slot is the start
-pub held-pop : (r : Ring) (ws : List ℕ) (n s : ℕ) → n ≡ length (held r ws) → s ≡ r .start % roomOf ws → 0 < n → held (record { start = s + 1; len = n - 1 }) ws ≡ drop 1 (held r ws)
-held-pop r ws n s e q h = round-pop (roomOf ws) (r .start) (r .len) (chunks ws) (length-slots chunkIn ws) blankChunk n s (e ∙ length-held r ws) q h
+-- the k-th slot is the start
+pub held-drop : (r : Ring) (ws : List ℕ) (n s k : ℕ) → n ≡ length (held r ws) → s ≡ r .start % roomOf ws → k ≤ n → held (record { start = s + k; len = n - k }) ws ≡ drop k (held r ws)
+held-drop r ws n s k e q h = round-drop (roomOf ws) (r .start) (r .len) (chunks ws) (length-slots chunkIn ws) blankChunk n s k (e ∙ length-held r ws) q h
 
 -- ---- the cases of each
 

@@ -14,7 +14,7 @@ use borrow.Author.Tests.{lt-ltb, le-ltb}
 use Rattle.model.specs.Lists.{if_then_else_, adjust}
 use Rattle.rows.specs.Adjusts.{adjust-set}
 use Rattle.rows.specs.Parts.{part}
-use Rattle.rows.specs.View.{place-low, place-high, turned, view, lt-or-ge, length-turned, length-view, view-get, view-set, view-push, view-pop}
+use Rattle.rows.specs.View.{place-low, place-high, turned, view, lt-or-ge, length-turned, length-view, view-get, view-set, view-push, view-drop}
 
 -- the cell of the i-th; past the end the number of cells, where there is none
 abbrev pub cellOf : (cap start len i : ℕ) → ℕ
@@ -108,11 +108,11 @@ module _ {A : Type 0} where
     round-push a h =
         ap (λ (n : ℕ). set (view n start (len + 1) xs) len a) e ∙ view-push cap start len xs e a h ∙ ap (λ (r : List A). r ++ (a ∷ [])) (sym as-view)
 
-    -- the next cell is the start, and the length that was read is one less
-    pub round-pop : (d : A) (n s : ℕ) → n ≡ min len cap → s ≡ start % cap → 0 < n → round (s + 1) (n - 1) xs ≡ drop 1 (round start len xs)
+    -- the k-th cell is the start, and the length that was read is k less
+    pub round-drop : (d : A) (n s k : ℕ) → n ≡ min len cap → s ≡ start % cap → k ≤ n → round (s + k) (n - k) xs ≡ drop k (round start len xs)
     unfolding round
-    round-pop d n s p q h =
-        ap (λ (c : ℕ). view c (s + 1) (n - 1) xs) e ∙ ap (λ (z : ℕ). view cap (z + 1) (n - 1) xs) q ∙ view-pop cap start len xs e d n p h ∙ ap (drop 1) (sym as-view)
+    round-drop d n s k p q h =
+        ap (λ (c : ℕ). view c (s + k) (n - k) xs) e ∙ ap (λ (z : ℕ). view cap (z + k) (n - k) xs) q ∙ view-drop cap start len xs e d n k p h ∙ ap (drop k) (sym as-view)
 
     -- the cells from the start on, and those from cell 0 on where that passes the last
     pub round-parts : (n s : ℕ) → n ≡ min len cap → s ≡ start % cap → round start len xs ≡ part s (s + n) xs ++ part 0 (n - (cap - s)) xs
