@@ -35,6 +35,16 @@ pub fn stream_at(cells: &[u64], i: usize) -> u16
     (cells[i * 8 + 6] % SSN) as u16
 }
 
+// The bytes that the chunk of slot i holds.
+pub fn length_at(cells: &[u64], i: usize) -> u32
+    ensures { λ r. ⌜ r ≡ getD (chunks (now (cells .entry))) i blankChunk .length ⌝ }
+{
+    if cells::room(cells) <= i {
+        return 0;
+    }
+    (cells[i * 8 + 5] % HIGH) as u32
+}
+
 // ---- one change
 
 // Slot i is to be retransmitted, if it is neither acknowledged nor abandoned.

@@ -1,6 +1,6 @@
 // A ring of chunks in lent cells. The two numbers go by value, the cells are a slice of words that the caller lends, and its length is
 // the ring's room. What a ring holds is the list `held`, for every value of the two numbers, so no call asks anything of its caller.
-// A caller's proof goes by that list: `count` is its length, `nth` its element, `push` its `++`, `shorter` its `drop 1`.
+// A caller's proof goes by that list: `count` is its length, `nth` its element, `push` its `++`, `shorter` its `drop 1`, `shorter_by` its `drop`.
 pub mod parts;
 
 use chunk_slot::FoundWords;
@@ -121,6 +121,21 @@ pub fn shorter(ring: Ring, cells: &[u64]) -> Ring
     Ring {
         start: start + 1,
         len: n - 1,
+    }
+}
+
+// The ring without its first k chunks.
+pub fn shorter_by(ring: Ring, cells: &[u64], k: usize) -> Ring
+    ensures { λ r. ⌜ held r (now (cells .entry)) ≡ drop k (held ring (now (cells .entry))) ⌝ }
+{
+    let n = count(ring, cells);
+    if n <= k {
+        return Ring { start: 0, len: 0 };
+    }
+    let start = fold(ring.start, cells::room(cells));
+    Ring {
+        start: start + k,
+        len: n - k,
     }
 }
 

@@ -21,6 +21,14 @@ pub fn nth_number(ring: Ring, cells: &[u64], i: usize) -> u64
     chunk_slot::parts::number_at(cells, at)
 }
 
+// The bytes that the i-th holds, and 0 past the end.
+pub fn nth_length(ring: Ring, cells: &[u64], i: usize) -> u32
+    ensures { λ r. ⌜ r ≡ getD (held ring (now (cells .entry))) i blankChunk .length ⌝ }
+{
+    let at = super::slot(ring, cells, i);
+    chunk_slot::parts::length_at(cells, at)
+}
+
 // Whether some slot from `from` on and before `to` is of the stream; past the room there is none. The end is brought down to the room, so that
 // the compiler leaves out the test of each slot.
 fn among(cells: &[u64], from: usize, to: usize, stream: u16) -> bool
