@@ -6,3 +6,4 @@ pub mod Walks
 pub mod Windows
 -- Covers: the entries that go, and what is acknowledged of the others.
 pub mod Covers
+pub mod Reads
