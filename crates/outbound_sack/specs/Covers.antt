@@ -19,8 +19,7 @@ use Rattle.demands.proofs.Gaps.{no-gaps}
 use Rattle.chunk_slot.specs.Chunks.{blankChunk}
 use Rattle.ring.specs.Held.{held}
 use Rattle.payload_queue.specs.declared.PayloadQueue.{PayloadQueue}
-use Rattle.payload_queue.specs.Queue.{Becomes, flightOf, dueOf, leastDue}
-use Rattle.payload_queue.specs.Dues.{least-never}
+use Rattle.payload_queue.specs.Queue.{Becomes, dueOf, leastDue}
 
 -- the flight without its first k entries
 abbrev pub without : (k : ℕ) → Flight → Flight

@@ -1,13 +1,13 @@
 -- The furthest end of the blocks that start at each TSN of a window; and that the furthest end so far tells what is covered.
-use mathlib.Core.Path.{_≡_, refl, sym, ap, _∙_}
+use mathlib.Core.Path.{_≡_, refl, ap, _∙_}
 use mathlib.Core.Bool.{Bool, true, false, _&&_, _||_}
 use mathlib.Core.List.{List, [], _∷_}
-use Prim.Native.Nat.{ℕ, zero, suc, _+_, _≤_, _<_, max}
+use Prim.Native.Nat.{ℕ, zero, suc, _<_, max}
 use native.Mathlib.Decide.{decLt}
 use native.Mathlib.Omega.{arith}
 use lib.ListN.{replicate}
 use lib.Dec.{leb, eqb}
-use borrow.Author.Tests.{le-leb, lt-leb, leb-true, leb-false, eq-eqb, ne-eqb}
+use borrow.Author.Tests.{le-leb, lt-leb, eq-eqb, ne-eqb}
 use Rattle.model.specs.declared.Block.{Block}
 use Rattle.model.specs.declared.Chunk.{Chunk}
 use Rattle.model.specs.Lists.{if_then_else_, some-of}
@@ -86,7 +86,7 @@ leb-max k x y = go (decLt x k) (decLt y k)
     go (yes h) (no g) = rw (lt-leb k x h, le-leb k y (omega arith)) (le-leb k (max x y) (omega arith))
     go (no h) _ = rw (le-leb k x (omega arith)) (le-leb k (max x y) (omega arith))
 
-pub covered-is : (k : ℕ) (bs : List Block) → leb (suc k) (endUpTo (suc k) bs) ≡ some-of (inside (suc k)) bs
+covered-is : (k : ℕ) (bs : List Block) → leb (suc k) (endUpTo (suc k) bs) ≡ some-of (inside (suc k)) bs
 covered-is k [] = lt-leb (suc k) 0 (omega arith)
 covered-is k (b ∷ bs) =
     leb-max (suc k) (if leb (b .start) (suc k) then b .end else 0) (endUpTo (suc k) bs) ∙ (λ i. one (leb (b .start) (suc k)) i || covered-is k bs i)

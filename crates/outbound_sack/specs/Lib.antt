@@ -4,6 +4,6 @@ pub mod Ends
 pub mod Notes
 pub mod Walks
 pub mod Windows
--- Covers: the entries that go, and what is acknowledged of the others.
+-- Covers: the entries that go, and what is acknowledged of the others. Reads: the call, as the model's.
 pub mod Covers
 pub mod Reads

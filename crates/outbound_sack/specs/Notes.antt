@@ -1,6 +1,5 @@
 -- The ways out of `note`: nothing changes, or the cell of the start takes the end.
 use mathlib.Core.Path.{_≡_, refl, sym, ap, _∙_}
-use mathlib.Core.Bool.{Bool, true, false}
 use mathlib.Core.List.{List, [], _∷_}
 use Prim.Native.Nat.{ℕ, zero, suc, _+_, _-_, _≤_, _<_, max}
 use native.Mathlib.Omega.{arith}
@@ -10,7 +9,6 @@ use lib.Dec.{eqb}
 use borrow.Author.Tests.{eq-eqb, ne-eqb}
 use Rattle.model.specs.declared.Block.{Block}
 use Rattle.model.specs.Lists.{if_then_else_}
-use Rattle.model.specs.Sack.{blockAt, blocksFrom}
 use Rattle.outbound_sack.specs.Ends.{noted, notedAll}
 
 -- a cell that is not the start's
@@ -30,7 +28,7 @@ past k b (e ∷ l) h = let o = other k b e (λ q. omega arith) in λ i. o i ∷ 
 own : (k : ℕ) (b : Block) (e : ℕ) → b .start ≡ k → max e (b .end) ≡ max e (if eqb (b .start) k then b .end else 0)
 own k b e h = rw (eq-eqb (b .start) k h)
 
-pub in-window : (i k : ℕ) (b : Block) (l : List ℕ) → b .start ≡ k + i → i < length l → set l i (max (getD l i 0) (b .end)) ≡ noted k b l
+in-window : (i k : ℕ) (b : Block) (l : List ℕ) → b .start ≡ k + i → i < length l → set l i (max (getD l i 0) (b .end)) ≡ noted k b l
 in-window i k b [] e h = refl
 in-window zero k b (x ∷ l) e h = let o = own k b x (omega arith) in λ j. o j ∷ before (suc k) b l (omega arith) j
 in-window (suc i) k b (x ∷ l) e h = let o = other k b x (λ q. omega arith) in λ j. o j ∷ in-window i (suc k) b l (omega arith) (omega arith) j

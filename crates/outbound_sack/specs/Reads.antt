@@ -12,7 +12,6 @@ use Rattle.limits.specs.Limits.{Room}
 use Rattle.limits.specs.Refusals.{badSack, badBlock}
 use Rattle.model.specs.declared.Block.{Block}
 use Rattle.model.specs.declared.Sacked.{Sacked}
-use Rattle.model.specs.declared.Stream.{Stream}
 use Rattle.model.specs.Lists.{if_then_else_, total}
 use Rattle.model.specs.State.{Sender, Flight, Out, same}
 use Rattle.model.specs.Told.{toldSacked}

@@ -1,5 +1,5 @@
 -- Window behind window: the entries before are done, and the furthest end so far is known.
-use mathlib.Core.Path.{_≡_, refl, sym, ap, _∙_}
+use mathlib.Core.Path.{_≡_, refl, sym, ap, subst, _∙_}
 use mathlib.Core.Bool.{Bool, true, false, _&&_}
 use mathlib.Core.List.{List, [], _∷_}
 use Prim.Native.Nat.{ℕ, zero, suc, _+_, _≤_, _<_, max}
@@ -27,9 +27,10 @@ Acknowledges bs l m n = (allWithin (length l) bs ≡ true → m ≡ gapped bs 1 
 unfoldable pub blank : List ℕ
 blank = replicate 256 0
 
--- what was noted there
-pub noted-blank : (k : ℕ) (bs : List Block) {es old : List ℕ} → old ≡ blank → es ≡ notedAll k bs old → es ≡ notedAll k bs blank
-noted-blank k bs e f = f ∙ ap (notedAll k bs) e
+-- a walk over what was noted there
+pub walks-noted : (bs : List Block) (from top n : ℕ) (l : List Chunk) {old es : List ℕ} {m : List Chunk} {t : ℕ} → old ≡ blank → es ≡ notedAll (from + 1) bs old → WalksOver es from top l m t n
+    → WalksOver (notedAll (from + 1) bs blank) from top l m t n
+walks-noted bs from top n l {m = m} {t} e f w = subst (λ (es : List ℕ). WalksOver es from top l m t n) (f ∙ ap (notedAll (from + 1) bs) e) w
 
 -- ---- the furthest end
 

@@ -9,7 +9,7 @@ ghost use Rattle.model.specs.Rings.{bytes};
 ghost use Rattle.ring.specs.Held.{held};
 ghost use Rattle.outbound_sack.specs.Covers.{Frees, without};
 
-// What the first k hold together.
+// What the first k hold together. An entry past the end holds nothing; a SACK never covers more than there are.
 fn sum(ring: Ring, cells: &[u64], k: u32) -> u64
     ensures { λ r. ⌜ r + bytes (drop k (held ring (now (cells .entry)))) ≡ bytes (held ring (now (cells .entry))) ⌝ }
 {

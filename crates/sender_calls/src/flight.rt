@@ -1,6 +1,6 @@
 // The sender's calls on the flight alone: each lends the queue's half of the cells to the crate below, and the table of streams stays. Each
-// equals 01's call of every head and every cells; the list of what has expired promises by `Finds` what it lists in states that no call makes,
-// and 01's list in every `Good` state whose numbers are kept.
+// equals the model's call of every head and every cells; the list of what has expired promises by `Finds` what it lists in states that no
+// call makes, and the model's list in every `Good` state whose numbers are kept.
 use model::Found;
 use model::Listed;
 use model::Sacked;

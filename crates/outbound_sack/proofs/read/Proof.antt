@@ -1,16 +1,17 @@
 -- Each way out is one of the model's.
-use Rattle.outbound_sack.specs.Reads.{refused, long-enough, tested, lent-within, left-as, stale-empty, stale-beyond, bad-block, taken}
+use mathlib.Core.Path.{refl, sym, _∙_}
+use Prim.Native.Nat.{_≤_, _<_}
+use native.Mathlib.Omega.{arith}
+use denote.Ref.{now}
+use lib.ListN.{length}
+use Rattle.limits.specs.Limits.{tsns}
+use Rattle.model.specs.Sacks.{covered}
 use Rattle.demands.proofs.Sacks.{accepted}
+use Rattle.ring.specs.Held.{held-limit}
 use Rattle.payload_queue.specs.Queue.{flightOf}
 use Rattle.payload_queue.specs.Model.{withFlight}
-use Rattle.ring.specs.Held.{held, held-limit}
-use Rattle.limits.specs.Limits.{tsns}
-use Prim.Native.Nat.{_<_}
-use lib.ListN.{length}
-use mathlib.Core.Path.{refl, sym, _∙_}
-use native.Mathlib.Omega.{arith}
+use Rattle.outbound_sack.specs.Reads.{refused, long-enough, tested, lent-within, left-as, stale-empty, stale-beyond, bad-block, taken}
 use borrow.Author.Tests.{not-true, not-false}
-use denote.Ref.{now}
 use borrow.Author.Needs.{needs}
 use Rattle.outbound_sack.proofs.read.Statement.{statement}
 use Rattle.outbound_sack.proofs.read.Tie as tie
@@ -66,18 +67,14 @@ returns-3 c =
 sub-part : tie.Need-sub-part
 sub-part c =
     let a = c .before .before .before .before .before .before .before .before .before .before .before .args in
-    let p = now (a .packet) in
-    let f = flightOf (a .q) (now (a .cells)) in
     let e = sym (c .before .before .before .before .before .before .before .before .read .ensures) ∙ c .before .before .before .before .before .before .layout .given .1 in
-    omega (arith, long-enough p _ _ e)
+    omega (arith, long-enough (now (a .packet)) _ _ e)
 
 part-part-start : tie.Need-part-part-start
 part-part-start c =
     let a = c .before .before .before .before .before .before .before .before .before .before .before .args in
-    let p = now (a .packet) in
-    let f = flightOf (a .q) (now (a .cells)) in
     let e = sym (c .before .before .before .before .before .before .before .before .read .ensures) ∙ c .before .before .before .before .before .before .layout .given .1 in
-    omega (arith, long-enough p _ _ e)
+    omega (arith, long-enough (now (a .packet)) _ _ e)
 
 part-part-end : tie.Need-part-part-end
 part-part-end c = search needs
@@ -104,7 +101,10 @@ returns-4 c =
     let n = c .before .before .before .before .before .before .count .ensures in
     let k = c .before .before .before .before .before .covered .ensures in
     let w = c .before .all-within in
-    (λ room s. bad-block room p (withFlight f s) _ _ e (omega (arith, n, c .before .before .before .before .if1 .left)) (omega (arith, n, k, c .before .before .before .if2 .left)) (sym (tested p (v .0) (v .1 .0) f n k (w .ensures)) ∙ not-true (w .result) (c .if3 .taken)), λ h. h, λ r. (refl, refl))
+    let g = sym (tested p (v .0) (v .1 .0) f n k (w .ensures)) ∙ not-true (w .result) (c .if3 .taken) in
+    let some : 0 < length (f .entries) = omega (arith, n, c .before .before .before .before .if1 .left) in
+    let h : covered (v .0) f ≤ length (f .entries) = omega (arith, n, k, c .before .before .before .if2 .left) in
+    (λ room s. bad-block room p (withFlight f s) _ _ e some h g, λ z. z, λ r. (refl, refl))
 
 accept-requires : tie.Need-accept-requires
 accept-requires c κs = search needs
@@ -127,8 +127,13 @@ returns-5 c =
     let x = c .before .before .before .accept .ensures (lent-within p (v .0) (v .1 .0) f n k (w .ensures) y) in
     let o : a .q .oldest < tsns = omega (arith, c .before .before .before .before .before .before .before .before .before .before .before .before .before .before .before .before .before .before .before .good .0) in
     let u : v .0 < tsns = omega (arith, c .before .before .before .before .before .before .before .before .before .before .before .before .before .known-told .given) in
-    let m : length (held (a .q .ring) (now (a .cells))) < tsns = omega (arith, held-limit (a .q .ring) (now (a .cells))) in
-    (λ room s. taken room p (withFlight f s) _ _ e (omega (arith, n, c .before .before .before .before .before .before .before .before .before .if1 .left)) (omega (arith, n, k, c .before .before .before .before .before .before .before .before .if2 .left)) g (accepted room (v .0) _ (withFlight f s) o u m (omega (arith, n, k, c .before .before .before .before .before .before .before .before .if2 .left)) g) (left-as p (v .0) (v .1 .0) f n k (w .ensures) (x .0 .0)) (x .1), x .0 .1, λ r. absurd (r refl))
+    let m : length (f .entries) < tsns = omega (arith, held-limit (a .q .ring) (now (a .cells))) in
+    let some : 0 < length (f .entries) = omega (arith, n, c .before .before .before .before .before .before .before .before .before .if1 .left) in
+    let h : covered (v .0) f ≤ length (f .entries) = omega (arith, n, k, c .before .before .before .before .before .before .before .before .if2 .left) in (
+      λ room s. taken room p (withFlight f s) _ _ e some h g (accepted room (v .0) _ (withFlight f s) o u m h g) (left-as p (v .0) (v .1 .0) f n k (w .ensures) (x .0 .0)) (x .1),
+      x .0 .1,
+      λ r. absurd (r refl),
+    )
 
 pub read-spec : {M : Type 1} → statement M
 read-spec =

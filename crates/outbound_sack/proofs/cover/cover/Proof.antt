@@ -1,12 +1,12 @@
 -- The entries go, and the counter gives back what they held.
-use Rattle.outbound_sack.specs.Covers.{flight-is, least-drop}
-use Rattle.ring.specs.Held.{held}
-use Rattle.payload_queue.specs.Queue.{leastDue}
-use Rattle.payload_queue.specs.Sums.{counted-less}
-use Rattle.model.specs.Rings.{bytes}
 use mathlib.Core.Path.{ap}
 use native.Mathlib.Omega.{arith}
 use denote.Ref.{now}
+use Rattle.model.specs.Rings.{bytes}
+use Rattle.ring.specs.Held.{held}
+use Rattle.payload_queue.specs.Queue.{leastDue}
+use Rattle.payload_queue.specs.Sums.{counted-less}
+use Rattle.outbound_sack.specs.Covers.{flight-is, least-drop}
 use borrow.Author.Needs.{needs}
 use Rattle.outbound_sack.proofs.cover.cover.Statement.{statement}
 use Rattle.outbound_sack.proofs.cover.cover.Tie as tie

@@ -1,13 +1,13 @@
 -- What is summed and what is left are all.
-use Rattle.outbound_sack.specs.Covers.{bytes-turn}
-use Rattle.model.specs.Rings.{bytes}
-use Rattle.ring.specs.Held.{held}
-use Rattle.ring.specs.Sums.{held-bytes}
 use mathlib.Core.Path.{_≡_, ap}
 use Prim.Native.Nat.{ℕ, _+_, _-_, _≤_}
 use native.Mathlib.Omega.{arith}
-use lib.ListN.{drop}
 use denote.Ref.{now}
+use lib.ListN.{drop}
+use Rattle.model.specs.Rings.{bytes}
+use Rattle.ring.specs.Held.{held}
+use Rattle.ring.specs.Sums.{held-bytes}
+use Rattle.outbound_sack.specs.Covers.{bytes-turn}
 use borrow.Author.Needs.{needs}
 use Rattle.outbound_sack.proofs.cover.sum.Statement.{statement}
 use Rattle.outbound_sack.proofs.cover.sum.Tie as tie

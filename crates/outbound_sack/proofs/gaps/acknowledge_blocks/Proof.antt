@@ -1,16 +1,16 @@
 -- Window behind window, and the bytes add up.
-use Rattle.outbound_sack.specs.Windows.{Windows, first-window, next-blank, last-window}
-use Rattle.ring.specs.Sums.{held-bytes}
-use Rattle.ring.specs.Held.{held, held-limit}
-use Rattle.model.specs.Sack.{blocksFrom, allWithin}
-use Rattle.model.specs.Rings.{bytes}
-use borrow.Author.Needs.{needs}
-use lib.ListN.{length}
-use Prim.Native.Nat.{ℕ, _+_, _-_, _≤_}
+use mathlib.Core.Path.{_≡_, refl}
 use mathlib.Core.Bool.{true}
-use mathlib.Core.Path.{_≡_, refl, ap, _∙_}
+use Prim.Native.Nat.{_+_, _-_}
 use native.Mathlib.Omega.{arith}
 use denote.Ref.{now}
+use lib.ListN.{length}
+use Rattle.model.specs.Sack.{blocksFrom, allWithin}
+use Rattle.model.specs.Rings.{bytes}
+use Rattle.ring.specs.Sums.{held-bytes}
+use Rattle.ring.specs.Held.{held, held-limit}
+use Rattle.outbound_sack.specs.Windows.{Windows, first-window, next-blank, last-window}
+use borrow.Author.Needs.{needs}
 use Rattle.outbound_sack.proofs.gaps.acknowledge_blocks.Statement.{statement}
 use Rattle.outbound_sack.proofs.gaps.acknowledge_blocks.Tie as tie
 
@@ -24,30 +24,31 @@ count-requires : tie.Need-count-requires Inv-loop μ-loop
 count-requires c κs = search needs
 
 loop-holds : tie.Need-loop-holds Inv-loop μ-loop
-loop-holds c = let a = c .before .before .before .before .args in (refl, λ w. first-window (blocksFrom (a .count) 0 (now (a .part))) (held (a .ring) (now (a .cells))) (length (held (a .ring) (now (a .cells)))) w, omega arith)
+loop-holds c =
+    let a = c .before .before .before .before .args in
+    let l = held (a .ring) (now (a .cells)) in
+    (refl, λ w. first-window (blocksFrom (a .count) 0 (now (a .part))) l (length l) w, omega arith)
 
 window-requires : tie.Need-window-requires Inv-loop μ-loop
 window-requires c κs = search needs
 
 add-sum : tie.Need-add-sum Inv-loop μ-loop
-add-sum c = let a = c .before .before .before .before .before .before .before .before .before .before .before .args in
+add-sum c =
+    let a = c .before .before .before .before .before .before .before .before .before .before .before .args in
     let l = c .before .before .before .before .before .before .loop in
-    let e = held (a .ring) (now (a .cells)) in
-    let bs = blocksFrom (a .count) 0 (now (a .part)) in
     record { fits = omega (arith, c .before .before .before .window .ensures .2, l .inv .2, held-bytes (a .ring) (now (a .cells))) }
 
 add-from : tie.Need-add-from Inv-loop μ-loop
-add-from c = let a = c .before .before .before .before .before .before .before .before .before .before .before .args in
-    let l = c .before .before .before .before .before .before .loop in
-    let e = held (a .ring) (now (a .cells)) in
-    let bs = blocksFrom (a .count) 0 (now (a .part)) in
+add-from c =
+    let a = c .before .before .before .before .before .before .before .before .before .before .before .args in
     record { fits = omega (arith, c .before .before .before .before .before .before .before .count .ensures, held-limit (a .ring) (now (a .cells))) }
 
 loop-less : tie.Need-loop-less Inv-loop μ-loop
 loop-less c = search needs
 
 loop-again : tie.Need-loop-again Inv-loop μ-loop
-loop-again c = let a = c .before .before .before .before .before .before .before .before .before .before .before .args in
+loop-again c =
+    let a = c .before .before .before .before .before .before .before .before .before .before .before .args in
     let l = c .before .before .before .before .before .before .loop in
     let e = held (a .ring) (now (a .cells)) in
     let bs = blocksFrom (a .count) 0 (now (a .part)) in
@@ -59,7 +60,8 @@ same-length : tie.Need-same-length Inv-loop μ-loop
 same-length c = c .before .loop .inv .0
 
 returns : tie.Need-returns Inv-loop μ-loop
-returns c = let a = c .before .before .before .before .before .before .args in
+returns c =
+    let a = c .before .before .before .before .before .before .args in
     let l = c .before .loop in
     let e = held (a .ring) (now (a .cells)) in
     let bs = blocksFrom (a .count) 0 (now (a .part)) in

@@ -1,8 +1,8 @@
 -- The start is before the window, behind it, or in it, where the further end stays.
-use Rattle.outbound_sack.specs.Notes.{before, past, kept, taken}
 use Prim.Native.Nat.{_+_, _-_}
 use native.Mathlib.Omega.{arith}
 use denote.Ref.{now}
+use Rattle.outbound_sack.specs.Notes.{before, past, kept, taken}
 use borrow.Author.Needs.{needs}
 use Rattle.outbound_sack.proofs.gaps.note.Statement.{statement}
 use Rattle.outbound_sack.proofs.gaps.note.Tie as tie
@@ -11,7 +11,8 @@ cast-start : tie.Need-cast-start
 cast-start c = search needs
 
 returns : tie.Need-returns
-returns c = let a = c .before .before .args in
+returns c =
+    let a = c .before .before .args in
     let l = now (a .ends) in
     before (a .from + 1) (a .block) l (omega arith)
 
@@ -22,7 +23,8 @@ sub-k-2 : tie.Need-sub-k-2
 sub-k-2 c = search needs
 
 returns-2 : tie.Need-returns-2
-returns-2 c = let a = c .before .before .before .args in
+returns-2 c =
+    let a = c .before .before .before .args in
     let l = now (a .ends) in
     past (a .from + 1) (a .block) l (omega arith)
 
@@ -33,7 +35,8 @@ slice-read-if3 : tie.Need-slice-read-if3
 slice-read-if3 c = search needs
 
 returns-3 : tie.Need-returns-3
-returns-3 c = let a = c .before .before .before .before .before .before .args in
+returns-3 c =
+    let a = c .before .before .before .before .before .before .args in
     let l = now (a .ends) in
     kept (a .block .start - a .from - 1) (a .from + 1) (a .block) l (omega arith) (omega arith) (omega arith)
 
@@ -47,7 +50,8 @@ same-length : tie.Need-same-length
 same-length c = search needs
 
 returns-4 : tie.Need-returns-4
-returns-4 c = let a = c .before .before .before .before .before .before .args in
+returns-4 c =
+    let a = c .before .before .before .before .before .before .args in
     let l = now (a .ends) in
     taken (a .block .start - a .from - 1) (a .from + 1) (a .block) l (omega arith) (omega arith) (omega arith)
 

@@ -1,17 +1,17 @@
 -- What is left to note leads from the window as it is to where all of it leads.
-use Rattle.outbound_sack.specs.Notes.{same-long}
-use Rattle.outbound_sack.specs.Ends.{noted, notedAll}
-use Rattle.wire.specs.Walks.{next-block, no-block}
-use Rattle.model.specs.Sack.{blockAt, blocksFrom}
-use Rattle.model.specs.declared.Block.{Block}
-use lib.ListN.{length}
-use Prim.Native.Nat.{ℕ, _+_, _-_, _≤_}
-use mathlib.Core.List.{List}
 use mathlib.Core.Path.{_≡_, sym, ap, _∙_}
-use borrow.Author.Needs.{needs}
+use mathlib.Core.List.{List}
+use Prim.Native.Nat.{ℕ, _+_, _-_, _≤_}
 use native.Mathlib.Nat.{sub-zero}
 use native.Mathlib.Omega.{arith}
 use denote.Ref.{now}
+use lib.ListN.{length}
+use Rattle.model.specs.Sack.{blocksFrom}
+use Rattle.model.specs.declared.Block.{Block}
+use Rattle.wire.specs.Walks.{next-block, no-block}
+use Rattle.outbound_sack.specs.Notes.{same-long}
+use Rattle.outbound_sack.specs.Ends.{noted, notedAll}
+use borrow.Author.Needs.{needs}
 use Rattle.outbound_sack.proofs.gaps.note_ends.Statement.{statement}
 use Rattle.outbound_sack.proofs.gaps.note_ends.Tie as tie
 
@@ -22,7 +22,8 @@ abbrev μ-loop : tie.MeasureT-loop
 μ-loop part count from ends₀ n i₀ ends i = n - i
 
 loop-holds : tie.Need-loop-holds Inv-loop μ-loop
-loop-holds c = let a = c .before .before .args in
+loop-holds c =
+    let a = c .before .before .args in
     (omega arith, ap (λ (m : ℕ). notedAll (a .from + 1) (blocksFrom m 0 (now (a .part))) (now (a .ends))) (sub-zero (a .count)))
 
 block-requires : tie.Need-block-requires Inv-loop μ-loop
@@ -38,7 +39,8 @@ loop-less : tie.Need-loop-less Inv-loop μ-loop
 loop-less c = search needs
 
 loop-again : tie.Need-loop-again Inv-loop μ-loop
-loop-again c = let a = c .before .before .before .before .before .before .before .before .before .args in
+loop-again c =
+    let a = c .before .before .before .before .before .before .before .before .before .args in
     let l = c .before .before .before .before .before .before .loop in
     let q = now (a .part) in
     let k = a .from + 1 in
@@ -47,14 +49,16 @@ loop-again c = let a = c .before .before .before .before .before .before .before
     (omega arith, ap (notedAll k rest) n ∙ sym (ap (λ (bs : List Block). notedAll k bs (l .ends)) (next-block (a .count) (l .i) q (omega arith))) ∙ l .inv .1)
 
 same-length : tie.Need-same-length Inv-loop μ-loop
-same-length c = let a = c .before .before .before .before .args in
+same-length c =
+    let a = c .before .before .before .before .args in
     let l = c .before .loop in
     let q = now (a .part) in
     let k = a .from + 1 in
     sym (same-long k (blocksFrom (a .count - l .i) (l .i) q) (l .ends)) ∙ ap length (l .inv .1) ∙ same-long k (blocksFrom (a .count) 0 q) (now (a .ends))
 
 returns : tie.Need-returns Inv-loop μ-loop
-returns c = let a = c .before .before .before .before .args in
+returns c =
+    let a = c .before .before .before .before .args in
     let l = c .before .loop in
     let q = now (a .part) in
     let k = a .from + 1 in

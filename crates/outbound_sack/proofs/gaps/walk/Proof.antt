@@ -1,13 +1,13 @@
 -- Between two turns `Going` holds.
-use Rattle.outbound_sack.specs.Walks.{Going, going-start, going-turn, going-done, as-many}
-use Rattle.ring.specs.Sums.{held-bytes}
-use Rattle.ring.specs.Held.{held}
-use borrow.Author.Needs.{needs}
-use lib.ListN.{length}
-use mathlib.Core.Path.{_≡_, refl, sym, ap, _∙_}
+use mathlib.Core.Path.{_≡_, refl}
 use Prim.Native.Nat.{_+_, _-_, _≤_, _<_, min}
 use native.Mathlib.Omega.{arith}
 use denote.Ref.{now}
+use lib.ListN.{length}
+use Rattle.ring.specs.Sums.{held-bytes}
+use Rattle.ring.specs.Held.{held}
+use Rattle.outbound_sack.specs.Walks.{Going, going-start, going-turn, going-done, as-many}
+use borrow.Author.Needs.{needs}
 use Rattle.outbound_sack.proofs.gaps.walk.Statement.{statement}
 use Rattle.outbound_sack.proofs.gaps.walk.Tie as tie
 

@@ -1,13 +1,9 @@
 -- What was noted is what is walked.
-use Rattle.outbound_sack.specs.Windows.{blank, noted-blank}
-use Rattle.outbound_sack.specs.Walks.{walked, topAfter}
-use Rattle.ring.specs.Held.{held}
-use Rattle.model.specs.Sack.{blocksFrom}
-use lib.ListN.{drop}
-use Prim.Native.Nat.{ℕ, suc, _+_}
-use mathlib.Core.List.{List}
-use mathlib.Core.Path.{_≡_, refl, ap, _∙_}
+use mathlib.Core.Path.{refl}
 use denote.Ref.{now}
+use Rattle.model.specs.Sack.{blocksFrom}
+use Rattle.ring.specs.Held.{held}
+use Rattle.outbound_sack.specs.Windows.{blank, walks-noted}
 use borrow.Author.Needs.{needs}
 use Rattle.outbound_sack.proofs.gaps.window.Statement.{statement}
 use Rattle.outbound_sack.proofs.gaps.window.Tie as tie
@@ -29,11 +25,9 @@ same-length c = search needs
 
 returns : tie.Need-returns
 unfolding blank
-returns c = let a = c .before .before .before .before .before .before .before .before .before .before .args in
-    let l = held (a .ring) (now (a .cells)) in
-    let w = c .before .before .walk .ensures in
-    let n = noted-blank (a .from + 1) (blocksFrom (a .count) 0 (now (a .part))) refl (c .before .before .before .before .before .before .note-ends .ensures) in
-    (w .0 ∙ ap (λ (es : List ℕ). walked (a .from) (suc (a .from)) es (a .top) l) n, w .1 ∙ ap (λ (es : List ℕ). topAfter es (a .top) (drop (a .from) l)) n, w .2)
+returns c =
+    let a = c .before .before .before .before .before .before .before .before .before .before .args in
+    walks-noted (blocksFrom (a .count) 0 (now (a .part))) (a .from) (a .top) _ (held (a .ring) (now (a .cells))) refl (c .before .before .before .before .before .before .note-ends .ensures) (c .before .before .walk .ensures)
 
 pub window-spec : {M : Type 1} → statement M
 window-spec =
