@@ -2,6 +2,7 @@
 
 use super::Oracle;
 use super::call::Call;
+use crate::queue::outbound_queue::OutboundQueue;
 
 pub(super) const CLOCK_MAX: u64 = 1 << 40;
 pub(super) const U32_MAX: u64 = u32::MAX as u64;
@@ -82,11 +83,8 @@ impl Oracle {
         (stream.buffered_amount as u64, len.div_ceil(u64::from(stream.max_payload_size)), used)
     }
 
-    /// How many entries a cumulative TSN covers: from one before the oldest to the newest; none where the SACK is stale.
     pub(super) fn covered(&self, cumulative: u32) -> Option<u32> {
-        let queue = &self.association.outbound;
-        let covered = cumulative.wrapping_add(1).wrapping_sub(queue.probe_oldest()?);
-        (covered as usize <= queue.inflight_len()).then_some(covered)
+        covered(&self.association.outbound, cumulative)
     }
 
     /// Of a SACK that is not stale: a block with start 0, start above end, or end beyond the newest.
@@ -107,6 +105,12 @@ impl Oracle {
         let expired = kept.deadline.is_some_and(|d| d <= self.at(now));
         expired && !kept.suppressed && kept.count as u64 == U32_MAX
     }
+}
+
+/// How many entries a cumulative TSN covers: from one before the oldest to the newest; none where the SACK is stale.
+pub(super) fn covered(queue: &OutboundQueue, cumulative: u32) -> Option<u32> {
+    let covered = cumulative.wrapping_add(1).wrapping_sub(queue.probe_oldest()?);
+    (covered as usize <= queue.inflight_len()).then_some(covered)
 }
 
 // ---- the bytes of a SACK

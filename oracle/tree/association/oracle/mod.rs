@@ -32,6 +32,7 @@ use crate::Side;
 use crate::chunk::Chunk;
 use crate::chunk::chunk_payload_data::PayloadProtocolIdentifier;
 use crate::chunk::chunk_selective_ack::ChunkSelectiveAck;
+use crate::queue::outbound_queue::OutboundQueue;
 
 /// 01's capacities; `cap` sets others.
 const RING: usize = 256;
@@ -295,25 +296,14 @@ impl Oracle {
         &self.wire[..place(bytes)]
     }
 
-    /// The original's reader, and the single calls that its fields mean: the covered prefix is acknowledged and popped,
-    /// then the blocks are acknowledged.
+    /// The original's reader, and the single calls that its fields mean.
     fn sack(&mut self, bytes: u64, out: &mut String) {
         let sack = match ChunkSelectiveAck::unmarshal(&self.lent(bytes).to_vec().into()) {
             Ok(sack) => sack,
             Err(error) => return put(out, format_args!("err {error:?}")),
         };
         let Some(covered) = self.covered(sack.cumulative_tsn_ack) else { return put(out, "stale") };
-        let queue = &mut self.association.outbound;
-        let mut released = 0;
-        for back in (0..covered).rev() {
-            let tsn = sack.cumulative_tsn_ack.wrapping_sub(back);
-            released += queue.mark_as_acked(tsn);
-            queue.pop(tsn);
-        }
-        for offset in sack.gap_ack_blocks.iter().flat_map(|block| block.start..=block.end) {
-            released += queue.mark_as_acked(sack.cumulative_tsn_ack.wrapping_add(offset.into()));
-        }
-        put(out, format_args!("bytes={released}"));
+        put(out, format_args!("bytes={}", single_calls(&mut self.association.outbound, &sack, covered)));
     }
 
     fn perform_queue(&mut self, call: &Call, out: &mut String) {
@@ -421,6 +411,20 @@ impl Oracle {
         }
         put(out, "ok");
     }
+}
+
+/// The covered prefix is acknowledged and popped, then the blocks are acknowledged; what these calls released.
+fn single_calls(queue: &mut OutboundQueue, sack: &ChunkSelectiveAck, covered: u32) -> usize {
+    let mut released = 0;
+    for back in (0..covered).rev() {
+        let tsn = sack.cumulative_tsn_ack.wrapping_sub(back);
+        released += queue.mark_as_acked(tsn);
+        queue.pop(tsn);
+    }
+    for offset in sack.gap_ack_blocks.iter().flat_map(|block| block.start..=block.end) {
+        released += queue.mark_as_acked(sack.cumulative_tsn_ack.wrapping_add(offset.into()));
+    }
+    released
 }
 
 /// A place of the wire, or its end.
