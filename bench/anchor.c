@@ -11,6 +11,7 @@ typedef girdermoth_head head;
 typedef girdermoth_reply reply;
 typedef girdermoth_fragment fragment;
 typedef girdermoth_freed freed;
+typedef girdermoth_sacked sacked;
 
 enum { SLOT = 8, ROOM = 256, STREAMS = 64, DCEP = 50 };
 // Where the rings begin in the cells, behind the table of streams.
@@ -341,6 +342,42 @@ fragment anchor_pop(sender *s, uint32_t tsn) {
     h->oldest++;
     h->flight_bytes -= (uint32_t)slot[SIZES];
     return fragment_of(tsn, slot);
+}
+
+static inline word two_bytes(const uint8_t *at) { return (word)at[0] << 8 | at[1]; }
+
+// The blocks are noted in a bit for each entry while they are tested, so that none is walked twice; then the covered entries go, of which nothing is
+// written, and those whose bits are set are acknowledged.
+sacked anchor_handle_sack(sender *s, const uint8_t *chunk, size_t length) {
+    head *h = &s->head;
+    if (length < 16 || chunk[0] != 3 || two_bytes(chunk + 2) != length) return (sacked){.refusal = GIRDERMOTH_BAD_SACK};
+    word blocks = two_bytes(chunk + 12);
+    if (16 + 4 * (blocks + two_bytes(chunk + 14)) != length) return (sacked){.refusal = GIRDERMOTH_BAD_SACK};
+    uint32_t covered = (uint32_t)(two_bytes(chunk + 4) << 16 | two_bytes(chunk + 6)) + 1 - h->oldest;
+    if (!h->flight_len || covered > h->flight_len) return (sacked){.stale = true};
+    word left = h->flight_len - covered, inside[ROOM / 64] = {0}, bytes = 0;
+    for (const uint8_t *at = chunk + 16, *end = at + 4 * blocks; at != end; at += 4) {
+        word from = two_bytes(at), to = two_bytes(at + 2);
+        if (!from || from > to || to > left) return (sacked){.refusal = GIRDERMOTH_BAD_BLOCK};
+        word first = (from - 1) / 64, last = (to - 1) / 64, low = UINT64_MAX << (from - 1) % 64, high = UINT64_MAX >> (63 - (to - 1) % 64);
+        for (word i = first; i <= last; i++) inside[i] |= (i == first ? low : UINT64_MAX) & (i == last ? high : UINT64_MAX);
+    }
+    word front = in_front(h->flight_start, covered);
+    for (word *slot = flying(s, 0), n = front; n; n--, slot += SLOT) bytes += (uint32_t)slot[SIZES];
+    for (word *slot = s->cells + FLIGHT_RING, n = covered - front; n; n--, slot += SLOT) bytes += (uint32_t)slot[SIZES];
+    h->flight_start = (h->flight_start + covered) % ROOM;
+    h->flight_len = left;
+    h->oldest += covered;
+    if (blocks)
+        for (word i = 0; i < ROOM / 64; i++)
+            for (word bits = inside[i]; bits; bits &= bits - 1) {
+                word *slot = flying(s, i * 64 + (word)__builtin_ctzll(bits)), sizes = slot[SIZES];
+                slot[SIZES] = sizes >> 32 << 32;
+                slot[MARKS] = (slot[MARKS] | ACKED) & ~RETRANSMIT;
+                bytes += (uint32_t)sizes;
+            }
+    h->flight_bytes -= bytes;
+    return (sacked){.bytes = bytes};
 }
 
 static inline void mark(word *slot, word n) {

@@ -3,7 +3,7 @@
 // A sender is one struct that the caller owns: any memory of its size and alignment. No call allocates, blocks, keeps a pointer or touches
 // anything but what is lent to it. Every call is proved to return and to do what docs/CALLS.md says, whatever the sender's bytes are: but
 // only girdermoth_init makes a sender that means something. A `const girdermoth_sender *` is only read. Calls on one sender must not
-// overlap in time; a lent list must not lie within the sender.
+// overlap in time; a lent list or chunk must not lie within the sender.
 //
 // A reply has a refusal: 0 is done, any other is one of the numbers below. A refused call changes nothing, and all else in its reply is 0.
 //
@@ -16,8 +16,8 @@
 //   5. FORWARD-TSN for what is abandoned at the front of the flight;
 //   6. the timer T3-RTX runs while anything is in flight;
 //   7. wait until the earlier of girdermoth_next_deadline and girdermoth_timers_next_timeout, a packet or a write.
-// When a SACK comes: girdermoth_mark_as_acked for each TSN that it has, girdermoth_pop for the oldest ones up to its cumulative TSN, and what they
-// held, or what an expiry or an abandonment freed, goes to girdermoth_on_buffer_released.
+// When a SACK comes: girdermoth_handle_sack with its bytes. What that released, or what an expiry or an abandonment freed, goes to
+// girdermoth_on_buffer_released, stream by stream.
 //
 // A TERMINATOR is an entry of the flight that stands for the unsent rest of a message that was given up: it has the message's last TSN, no bytes,
 // `beginning` unset, `ending` and `abandoned` set, and `nsent` 0. It is never sent as a DATA chunk. The peer hears of it, and of all else that is
@@ -51,7 +51,9 @@ enum {
     GIRDERMOTH_NUMBERS_SPENT = 9,  // the message has a fragment, and the next number is 2^64 - 1
     GIRDERMOTH_FLIGHT_FULL = 10,   // the flight holds 255 or more entries, and a chunk is pending
     GIRDERMOTH_LIST_SHORT = 11,    // the lent list is shorter than the list of expired TSNs
-    GIRDERMOTH_COUNT_FULL = 12     // an expiry that would be counted finds the timer's count at 4,294,967,295
+    GIRDERMOTH_COUNT_FULL = 12,    // an expiry that would be counted finds the timer's count at 4,294,967,295
+    GIRDERMOTH_BAD_SACK = 13,      // the lent bytes are no SACK: under 16, of another type, or not as long as their length field and counts say
+    GIRDERMOTH_BAD_BLOCK = 14      // a gap block starts at 0, starts behind its end, or ends beyond the newest entry in flight
 };
 
 // Kinds of reliability; any other is as GIRDERMOTH_RELIABLE. The limit of REXMIT is the host's to keep: the sender does not know what is sent again.
@@ -123,12 +125,20 @@ typedef struct {
     uint8_t refusal;
 } girdermoth_counts;
 
+// What a SACK released, unless it is stale. `low` is reserved, and 0.
+typedef struct {
+    uint64_t bytes, low;
+    uint8_t refusal;
+    bool stale;
+} girdermoth_sacked;
+
 GIRDERMOTH_ASSERT(sizeof(girdermoth_head) == 112 && offsetof(girdermoth_head, selected) == 40 && offsetof(girdermoth_head, flight_start) == 48 && offsetof(girdermoth_head, oldest) == 64 && offsetof(girdermoth_head, streams) == 104, "head");
 GIRDERMOTH_ASSERT(sizeof(girdermoth_sender) == 53360 && offsetof(girdermoth_sender, cells) == 112, "sender");
 GIRDERMOTH_ASSERT(sizeof(girdermoth_reply) == 16 && offsetof(girdermoth_reply, yes) == 9, "reply");
 GIRDERMOTH_ASSERT(sizeof(girdermoth_freed) == 24 && offsetof(girdermoth_freed, unordered) == 20, "freed");
 GIRDERMOTH_ASSERT(sizeof(girdermoth_fragment) == 72 && offsetof(girdermoth_fragment, retransmit) == 66, "fragment");
 GIRDERMOTH_ASSERT(sizeof(girdermoth_counts) == 24 && offsetof(girdermoth_counts, refusal) == 16, "counts");
+GIRDERMOTH_ASSERT(sizeof(girdermoth_sacked) == 24 && offsetof(girdermoth_sacked, stale) == 17, "sacked");
 GIRDERMOTH_ASSERT(sizeof(bool) == 1, "bool");
 #ifdef __cplusplus
 GIRDERMOTH_ASSERT(alignof(girdermoth_sender) == 8 && alignof(girdermoth_fragment) == 8, "alignment");
@@ -180,11 +190,19 @@ girdermoth_freed girdermoth_abandon(girdermoth_sender *s, uint32_t tsn);
 
 // ---- the flight
 
+// The peer's SACK (RFC 9260, section 3.3.4). The host cuts the packet: the `length` bytes at `chunk` are exactly the chunk, from its type on to its last
+// block or duplicate TSN. Where its cumulative TSN lies from one before the oldest in flight to the newest, modulo 2^32, the entries up to it are
+// acknowledged and popped, then those of its gap blocks are acknowledged; `bytes` is what all of them held, each once, however blocks overlap. Otherwise,
+// or with nothing in flight, the SACK is `stale`, and changes nothing; its blocks are not looked at. Flags, window and the duplicates' TSNs are not read.
+// Every block is tested before anything changes. `bytes` is of all streams together, and not yet off their buffered amounts: with one stream, it goes to
+// girdermoth_on_buffer_released as it is; with several, add up by stream the `length` of girdermoth_get over the flight before the call, take off the
+// same behind it, and release what is left. Refused, in this order: BAD_SACK; where it is not stale, BAD_BLOCK.
+girdermoth_sacked girdermoth_handle_sack(girdermoth_sender *s, const uint8_t *chunk, size_t length);
 // The entry of a TSN is acknowledged; `value` is the bytes that it held, for girdermoth_on_buffer_released (girdermoth_get tells the stream, before or
 // behind); 0 for an unknown TSN and for a second time. Never refused.
 girdermoth_reply girdermoth_mark_as_acked(girdermoth_sender *s, uint32_t tsn);
-// Takes the oldest entry out of the flight, if it has this TSN: for each TSN up to a SACK's cumulative one, behind girdermoth_mark_as_acked. No place of
-// the flight becomes free otherwise. Never refused.
+// Takes the oldest entry out of the flight, if it has this TSN: for each TSN up to a SACK's cumulative one, behind girdermoth_mark_as_acked, where the
+// host reads the SACK itself. No place of the flight becomes free but by this and by girdermoth_handle_sack. Never refused.
 girdermoth_fragment girdermoth_pop(girdermoth_sender *s, uint32_t tsn);
 // Marks every entry that is neither acknowledged nor abandoned for retransmission: when T3-RTX has fired. Never refused.
 girdermoth_reply girdermoth_mark_all_to_retransmit(girdermoth_sender *s);

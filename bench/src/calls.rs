@@ -1,5 +1,5 @@
 //! The calls of include/girdermoth.h that the race makes, and the two that have them: the archive, and the anchor in C (anchor.c).
-use crate::sys::{self, Expiry, Fragment, Freed, Reply, Rto, Sender, Timers};
+use crate::sys::{self, Expiry, Fragment, Freed, Reply, Rto, Sacked, Sender, Timers};
 
 /// What a host links.
 pub struct Archive;
@@ -12,6 +12,8 @@ macro_rules! calls {
             $(fn $call($($argument: $type),*) -> $reply;)*
             /// With the list as a slice.
             fn expired_inflight(s: &mut Sender, list: &mut [u32], clock: u64) -> Reply;
+            /// With the chunk as a slice.
+            fn handle_sack(s: &mut Sender, chunk: &[u8]) -> Sacked;
         }
 
         impl Calls for Archive {
@@ -21,11 +23,15 @@ macro_rules! calls {
             fn expired_inflight(s: &mut Sender, list: &mut [u32], clock: u64) -> Reply {
                 sys::expired_inflight(s, list, clock)
             }
+            fn handle_sack(s: &mut Sender, chunk: &[u8]) -> Sacked {
+                sys::handle_sack(s, chunk)
+            }
         }
 
         unsafe extern "C" {
             $(fn $anchor($($argument: $type),*) -> $reply;)*
             fn anchor_expired_inflight(s: &mut Sender, list: *mut u32, room: usize, clock: u64) -> Reply;
+            fn anchor_handle_sack(s: &mut Sender, chunk: *const u8, length: usize) -> Sacked;
         }
 
         // SAFETY: the signatures are those of anchor.c, and its structs are the header's, which `sys` mirrors. A call is made over a state that
@@ -36,6 +42,9 @@ macro_rules! calls {
             })*
             fn expired_inflight(s: &mut Sender, list: &mut [u32], clock: u64) -> Reply {
                 unsafe { anchor_expired_inflight(s, list.as_mut_ptr(), list.len(), clock) }
+            }
+            fn handle_sack(s: &mut Sender, chunk: &[u8]) -> Sacked {
+                unsafe { anchor_handle_sack(s, chunk.as_ptr(), chunk.len()) }
             }
         }
     };

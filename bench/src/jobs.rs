@@ -2,6 +2,7 @@
 pub mod cycles;
 pub mod expiries;
 pub mod questions;
+pub mod sacks;
 pub mod timers;
 
 use crate::side::{Bytes, Side};

@@ -57,6 +57,7 @@ fn freed(f: sys::Freed) -> Option<Freed> {
 impl<C: Calls> Side for Lent<C> {
     type Time = u64;
     type Timers = LentTimers<C>;
+    type Packet = Vec<u8>;
 
     fn fresh(payload: u32, lifetime: u32) -> Self {
         let mut sender = Box::new(sys::Sender::ZERO);
@@ -90,6 +91,14 @@ impl<C: Calls> Side for Lent<C> {
     }
     fn pop(&mut self, tsn: u32) -> Option<Chunk> {
         chunk(C::pop(&mut self.sender, tsn))
+    }
+    fn packet(chunk: &[u8]) -> Vec<u8> {
+        chunk.to_vec()
+    }
+    fn sack(&mut self, packet: &Vec<u8>) -> Option<u64> {
+        let sacked = C::handle_sack(&mut self.sender, packet);
+        assert!(sacked.refusal == 0);
+        (sacked.stale == 0).then_some(sacked.bytes)
     }
     fn release(&mut self, stream: u16, bytes: i64) -> bool {
         C::release(&mut self.sender, stream, bytes).yes != 0

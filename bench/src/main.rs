@@ -22,6 +22,7 @@ use jobs::expiries::{
     StartLifetimes, Traffic,
 };
 use jobs::questions::{Ask, MarkAll, Question};
+use jobs::sacks::{Sack, Told};
 use jobs::timers::TimerJob;
 use race::{Plan, Row};
 use side::Bytes;
@@ -67,6 +68,12 @@ fn take_cycles(task: &mut Task) {
     }
     for call in Call::ALL {
         [0, 10, 100, 250].into_iter().for_each(|flight| task.take(Alone { call, flight }));
+    }
+}
+
+fn take_sacks(task: &mut Task) {
+    for told in [Told::All, Told::Gaps, Told::Overlaps] {
+        [10, 250].into_iter().for_each(|flight| task.take(Sack { flight, told }));
     }
 }
 
@@ -127,7 +134,7 @@ fn positive(word: &str) -> u64 {
 
 fn main() {
     let mut task = read_arguments();
-    [take_cycles, take_expiries, take_questions, take_timers].iter().for_each(|take| take(&mut task));
+    [take_cycles, take_sacks, take_expiries, take_questions, take_timers].iter().for_each(|take| take(&mut task));
     if task.check {
         println!("all sides answer the same");
         return;

@@ -33,6 +33,8 @@ pub const FIRST_TSN: u32 = 4_294_967_000;
 pub trait Side {
     type Time: Copy;
     type Timers: Clockwork;
+    /// A chunk of the peer's, as the side's reader takes it.
+    type Packet;
 
     /// `lifetime` in milliseconds; 0 is reliable.
     fn fresh(payload: u32, lifetime: u32) -> Self;
@@ -43,6 +45,9 @@ pub trait Side {
     fn send(&mut self, now: Self::Time) -> Option<Chunk>;
     fn acknowledge(&mut self, tsn: u32) -> u64;
     fn pop(&mut self, tsn: u32) -> Option<Chunk>;
+    fn packet(chunk: &[u8]) -> Self::Packet;
+    /// The bytes that a SACK released; nothing where it is stale.
+    fn sack(&mut self, packet: &Self::Packet) -> Option<u64>;
     fn release(&mut self, stream: u16, bytes: i64) -> bool;
     fn abandon(&mut self, tsn: u32) -> Option<Freed>;
     /// How many; the list itself is made as well.

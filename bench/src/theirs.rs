@@ -26,6 +26,7 @@ macro_rules! chunk {
 impl Side for Theirs {
     type Time = Instant;
     type Timers = TheirTimers;
+    type Packet = bytes::Bytes;
 
     fn fresh(payload: u32, lifetime: u32) -> Self {
         Theirs { sender: Oracle::bench_sender(payload, lifetime), shared: bytes::Bytes::new(), list: Vec::new() }
@@ -54,6 +55,12 @@ impl Side for Theirs {
     }
     fn pop(&mut self, tsn: u32) -> Option<Chunk> {
         chunk!(self.sender.pop(tsn))
+    }
+    fn packet(chunk: &[u8]) -> bytes::Bytes {
+        chunk.to_vec().into()
+    }
+    fn sack(&mut self, packet: &bytes::Bytes) -> Option<u64> {
+        self.sender.sack(packet).map(|bytes| bytes as u64)
     }
     fn release(&mut self, stream: u16, bytes: i64) -> bool {
         self.sender.released(stream, bytes)

@@ -142,6 +142,27 @@ static void refusals(void) {
     WANT(girdermoth_write(&s, 21, 53, 0, 1).refusal == GIRDERMOTH_NUMBERS_SPENT && girdermoth_write(&s, 21, 53, 0, 0).refusal == GIRDERMOTH_DONE);
 }
 
+// A SACK with one block: what it releases, or that it is stale; the two refusals; what else its bytes say is not read.
+static void sacks(void) {
+    uint8_t b[20] = {3, 0, 0, 20, 0, 0, 0x1b, 0x59, 0, 1, 0, 0, 0, 1, 0, 0, 0, 2, 0, 3};   // 7001, 2 to 3
+    fresh(false, GIRDERMOTH_RELIABLE, 0);
+    girdermoth_write(&s, 21, 53, 0, 550);
+    while (girdermoth_send_next(&s, 0).some) {}
+    WANT(girdermoth_handle_sack(&s, b, 19).refusal == GIRDERMOTH_BAD_SACK && girdermoth_handle_sack(&s, b, 0).refusal == GIRDERMOTH_BAD_SACK);
+    b[19] = 5;
+    girdermoth_sacked r = girdermoth_handle_sack(&s, b, sizeof b);
+    WANT(r.refusal == GIRDERMOTH_BAD_BLOCK && r.bytes == 0 && r.low == 0 && !r.stale && girdermoth_inflight_len(&s).value == 6);
+    b[19] = 3; b[7] = 0x5e;
+    r = girdermoth_handle_sack(&s, b, sizeof b);
+    WANT(r.refusal == GIRDERMOTH_DONE && r.stale && r.bytes == 0 && r.low == 0 && girdermoth_inflight_bytes(&s).value == 550);
+    b[7] = 0x59; b[1] = 255; b[8] = 7;
+    r = girdermoth_handle_sack(&s, b, sizeof b);
+    WANT(r.refusal == GIRDERMOTH_DONE && !r.stale && r.bytes == 400 && r.low == 0);
+    WANT(girdermoth_oldest_tsn(&s).value == 7002 && girdermoth_inflight_len(&s).value == 4 && girdermoth_inflight_bytes(&s).value == 150);
+    WANT(!girdermoth_get(&s, 7002).acked && girdermoth_get(&s, 7003).acked && girdermoth_get(&s, 7004).acked && !girdermoth_get(&s, 7005).acked);
+    WANT(girdermoth_buffered_amount(&s, 21).value == 550);
+}
+
 // The timers of init fail above 2, that of data above 1, the two others never; all but ACK wait at most rto_max; each has its own entry.
 static void timers(void) {
     const size_t place[] = {GIRDERMOTH_T1_INIT, GIRDERMOTH_T1_COOKIE, GIRDERMOTH_T2_SHUTDOWN, GIRDERMOTH_T3_RTX, GIRDERMOTH_RECONFIG, GIRDERMOTH_ACK};
@@ -200,7 +221,7 @@ static void estimator(void) {
 }
 
 int main(void) {
-    kinds(); payload_types(); fragments(); questions(); refusals(); timers(); estimator();
+    kinds(); payload_types(); fragments(); questions(); refusals(); sacks(); timers(); estimator();
     printf("meanings: %d wrong\n", bad);
     return bad != 0;
 }

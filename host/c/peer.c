@@ -79,15 +79,26 @@ static void take_forward(const packet *p) {
     cumulative = p->cumulative;
 }
 
+static void lay(uint8_t *at, uint32_t value, int width) { while (width--) { at[width] = (uint8_t)value; value >>= 8; } }
+
+// RFC 9260, 3.3.4: the blocks of what has been seen behind the cumulative TSN.
 static void acknowledge(void) {
-    packet sack = {.kind = SACK, .cumulative = cumulative};
-    for (uint32_t t = cumulative + 1; !after(t, highest) && sack.count < BLOCKS; t++) {
+    packet p = {.kind = SACK, .length = 16};
+    for (uint32_t t = cumulative + 1; !after(t, highest); t++) {
         if (!seen(t)) continue;
-        uint16_t at = (uint16_t)(t - cumulative);
-        if (sack.count && sack.pairs[sack.count - 1][1] == at - 1) sack.pairs[sack.count - 1][1] = at;
-        else { sack.pairs[sack.count][0] = sack.pairs[sack.count][1] = at; sack.count++; }
+        if (!seen(t - 1)) {
+            if (p.length == sizeof p.sack) break;
+            lay(p.sack + p.length, t - cumulative, 2);
+            p.length += 4;
+        }
+        lay(p.sack + p.length - 2, t - cumulative, 2);
     }
-    put(&sack);
+    p.sack[0] = SACK;
+    lay(p.sack + 2, (uint32_t)p.length, 2);
+    lay(p.sack + 4, cumulative, 4);
+    lay(p.sack + 8, 1 << 17, 4);
+    lay(p.sack + 12, (uint32_t)(p.length - 16) / 4, 2);
+    put(&p);
 }
 
 static void receive(const packet *p) {

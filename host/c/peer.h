@@ -8,8 +8,17 @@ enum { DATA = 0, SACK = 3, FORWARD = 192 };
 
 typedef struct { uint32_t tsn; uint16_t stream, ssn, length; bool unordered, beginning, ending; uint8_t bytes[PAYLOAD]; } chunk;
 
-// The pairs of a SACK are its gap blocks, those of a FORWARD-TSN streams with their last SSNs. The link sets when it arrives.
-typedef struct { uint64_t due; int kind; chunk data; uint32_t cumulative; int count; uint16_t pairs[BLOCKS][2]; } packet;
+// A SACK is the bytes of its chunk. The pairs of a FORWARD-TSN are streams with their last SSNs. The link sets when it arrives.
+typedef struct {
+    uint64_t due;
+    int kind;
+    chunk data;
+    uint8_t sack[16 + 4 * BLOCKS];
+    size_t length;
+    uint32_t cumulative;
+    int count;
+    uint16_t pairs[STREAMS][2];
+} packet;
 
 static inline bool after(uint32_t a, uint32_t b) { return (int32_t)(a - b) > 0; }
 

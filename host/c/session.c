@@ -88,21 +88,21 @@ static void loop(void) {
     else girdermoth_timer_stop(&timers, GIRDERMOTH_T3_RTX);
 }
 
-static void acknowledged(uint32_t tsn) {
-    girdermoth_fragment c = girdermoth_get(&s, tsn);
-    if (!c.some || c.acked) return;
-    girdermoth_on_buffer_released(&s, c.stream, (int64_t)girdermoth_mark_as_acked(&s, tsn).value);
-    girdermoth_timer_stop(&timers, GIRDERMOTH_T3_RTX);
-    if (c.has_since && kept[tsn % ROOM].sent == 1) girdermoth_rto_set_new_rtt(&rto, now - c.since);
-}
-
-static void sack(const packet *p) {
-    for (uint32_t t = oldest(); girdermoth_inflight_len(&s).value && !after(t, p->cumulative); t++) {
-        acknowledged(t);
-        want(girdermoth_pop(&s, t).some, "the oldest was not popped");
+static void sack(const packet *p) {   // what it acknowledged is told by the flight before it and behind it
+    static girdermoth_fragment was[ROOM];
+    uint32_t first = oldest(), entries = (uint32_t)girdermoth_inflight_len(&s).value, newest = first;
+    for (uint32_t i = 0; i < entries; i++) was[i] = girdermoth_get(&s, first + i);
+    girdermoth_sacked told = girdermoth_handle_sack(&s, p->sack, p->length);
+    for (uint32_t t = first; t != first + entries; t++) {
+        girdermoth_fragment before = was[t - first], c = girdermoth_get(&s, t);
+        if (before.acked || (c.some && !c.acked)) continue;
+        newest = t; told.bytes -= before.length;
+        girdermoth_on_buffer_released(&s, before.stream, before.length);
+        girdermoth_timer_stop(&timers, GIRDERMOTH_T3_RTX);
+        if (before.has_since && kept[t % ROOM].sent == 1) girdermoth_rto_set_new_rtt(&rto, now - before.since);
     }
-    for (int i = 0; i < p->count; i++) for (uint32_t at = p->pairs[i][0]; at <= p->pairs[i][1]; at++) acknowledged(p->cumulative + at);
-    if (p->count) for (uint32_t t = oldest(); after(p->cumulative + p->pairs[p->count - 1][1], t); t++) kept[t % ROOM].again |= ++kept[t % ROOM].missing == 3;
+    want(told.refusal == GIRDERMOTH_DONE && told.bytes == 0, "a SACK was refused, or released other bytes than it acknowledged");
+    for (uint32_t t = oldest(); after(newest, t); t++) kept[t % ROOM].again |= ++kept[t % ROOM].missing == 3;
 }
 
 static void write_one(const wish *w) {

@@ -9,15 +9,29 @@
 static uint64_t seed = 88172645463325252u;
 static uint64_t rnd(void) { seed ^= seed << 13; seed ^= seed >> 7; seed ^= seed << 17; return seed; }
 
-// What the calls are given: an identifier, a number below 2^32, a TSN, two of any size, one that may be negative, and the list's room.
-typedef struct { uint16_t id; uint32_t small, tsn; uint64_t a, b; int64_t back; size_t room; } args;
+// What the calls are given: an identifier, a number below 2^32, a TSN, two of any size, one that may be negative, the list's room, and a chunk.
+typedef struct { uint16_t id; uint32_t small, tsn; uint64_t a, b; int64_t back; size_t room; uint8_t *bytes; size_t length; } args;
 #include "calls.inc"
 
-static long bad = 0, calls = 0, refusals[13];
+static long bad = 0, calls = 0, refusals[15];
 static void want(int ok, const char *what, int call) { if (!ok && bad++ < 10) printf("WRONG: %s in %s\n", what, call < 0 ? "a run" : call_names[call]); }
 
 static void garbage(void *p, size_t n) { for (size_t i = 0; i < n; i++) ((uint8_t *)p)[i] = rnd() >> 32; }
 static uint32_t *lent(size_t room) { uint32_t *l = malloc(room * 4 + (room == 0)); for (size_t i = 0; i < room; i++) l[i] = 7; return l; }
+
+// A SACK near the flight, of up to three blocks, on a heap block of its size; sometimes one of its bytes is another, or it has more or fewer.
+static uint8_t *sack(size_t *length, uint32_t oldest, uint64_t flying) {
+    uint8_t b[32] = {3, 0, 0, 0, 0, 0, 0, 0, 0, 1}, *lent;
+    uint32_t blocks = rnd() % 4, cumulative = oldest - 1 + (uint32_t)(rnd() % 2 ? rnd() % 2 : rnd() % (flying + 2));
+    for (int i = 0; i < 4; i++) b[4 + i] = cumulative >> (24 - 8 * i);
+    for (uint32_t i = 0; i < blocks; i++) { b[17 + 4 * i] = 1 + rnd() % (flying / 2 + 1) % 100; b[19 + 4 * i] = b[17 + 4 * i] + rnd() % 4; }
+    *length = 16 + 4 * blocks; b[3] = *length; b[13] = blocks;
+    if (rnd() % 8 == 0) b[rnd() % *length] = rnd();
+    if (rnd() % 8 == 0) *length = rnd() % 33;
+    lent = malloc(*length + (*length == 0));
+    memcpy(lent, b, *length);
+    return lent;
+}
 
 // Writes and sends without a release until the buffered amount is at its limit, 65,535 times 65,536 bytes and 65,535 more.
 static void fill(girdermoth_sender *s) {
@@ -39,7 +53,7 @@ int main(int argc, char **argv) {
 
     for (long turn = 0; turn < turns; turn++) {
         int call = turn % CALLS;
-        args x = {rnd(), rnd(), rnd(), rnd(), rnd(), rnd(), rnd() % 300};
+        args x = {rnd(), rnd(), rnd(), rnd(), rnd(), rnd(), rnd() % 300, NULL, 0};
         if (turn / CALLS % 2) { x.a %= GIRDERMOTH_CLOCK_MAX; x.b %= 70000; x.small = rnd() % 65600; }
         garbage(s, sizeof *s);
         if (turn / CALLS % 3 == 1) {   // a head whose numbers are small, so that rings are partly full
@@ -47,10 +61,11 @@ int main(int argc, char **argv) {
             for (int i = 0; i < HEAD_LONGS; i++) *n[i] = rnd() % 300;
             x.tsn = s->head.oldest + rnd() % 300; x.id = (uint16_t)(s->cells[rnd() % 64 * 8] >> (rnd() % 4 * 16));
         }
+        x.bytes = sack(&x.length, s->head.oldest, s->head.flight_len % 300);
         memset(g, 0xA5, sizeof *g); *was = *s; g->s = *s;
         uint32_t *l = lent(x.room), *m = lent(x.room);
         any r = run(s, call, &x, l), q = run(&g->s, call, &x, m);
-        calls += 2; refusals[r.part[0] % 13]++;
+        calls += 2; refusals[r.part[0] % 15]++;
         want(memcmp(&r, &q, sizeof r) == 0, "two replies", call);
         want(same_head(&s->head, &g->s.head) && memcmp(s->cells, g->s.cells, sizeof s->cells) == 0, "two senders", call);
         want(memcmp(l, m, x.room * 4) == 0, "two lists", call);
@@ -61,7 +76,7 @@ int main(int argc, char **argv) {
         }
         if (r.part[0]) { for (size_t i = 0; i < x.room; i++) want(l[i] == 7, "a refusal wrote to the list", call); want(same_head(&s->head, &was->head) && memcmp(s->cells, was->cells, sizeof s->cells) == 0, "a refusal wrote", call); }
         for (int i = 0; i < 8; i++) want(g->front[i] == 0xA5A5A5A5A5A5A5A5u && g->back[i] == 0xA5A5A5A5A5A5A5A5u, "a canary", call);
-        free(l); free(m);
+        free(l); free(m); free(x.bytes);
     }
 
     for (long go = 0; go < turns / 200 + 1; go++) {   // from a fresh sender
@@ -72,24 +87,25 @@ int main(int argc, char **argv) {
             int pick = rnd() % 100, call = pick < 30 ? CALL_write : pick < 60 ? CALL_send_next : pick < 66 ? CALL_mark_as_acked : pick < 72 ? CALL_pop : (int)(1 + rnd() % (CALLS - 1));
             uint64_t flying = girdermoth_inflight_len(s).value; uint32_t next = girdermoth_next_tsn(s).value;
             clock += rnd() % 3;
-            args x = {rnd() % 6 + 1, rnd() % 50 ? 1 + rnd() % 3000 : rnd() % 70000, next - (uint32_t)(call == CALL_pop ? flying : rnd() % (flying + 2)), clock, rnd() % 9000, (int64_t)(rnd() % 20000) - 500, rnd() % 300};
+            args x = {rnd() % 6 + 1, rnd() % 50 ? 1 + rnd() % 3000 : rnd() % 70000, next - (uint32_t)(call == CALL_pop ? flying : rnd() % (flying + 2)), clock, rnd() % 9000, (int64_t)(rnd() % 20000) - 500, rnd() % 300, NULL, 0};
             if (call == CALL_set_reliability_params || call == CALL_set_buffered_amount_low_threshold || call == CALL_set_buffered_amount_high_threshold) x.a = rnd() % 30000;
             if (call == CALL_set_reliability_params) x.small = rnd() % 9;
             if (rnd() % 200 == 0) { x.a = rnd(); x.b = rnd() % 80000; x.id = rnd(); }
+            x.bytes = sack(&x.length, next - (uint32_t)flying, flying);
             uint32_t *l = lent(x.room), *m = lent(x.room);
             *was = *s;
             any r = run(s, call, &x, l), q = run(&g->s, call, &x, m);
-            calls += 2; refusals[r.part[0] % 13]++;
+            calls += 2; refusals[r.part[0] % 15]++;
             want(memcmp(&r, &q, sizeof r) == 0 && memcmp(l, m, x.room * 4) == 0, "other bytes in the cells changed a reply", call);
             if (call == CALL_expired_inflight && !r.part[0]) was->head.due = s->head.due;
             if (r.part[0] || asks(call) || call == CALL_expired_inflight) want(same_head(&s->head, &was->head) && memcmp(s->cells, was->cells, sizeof s->cells) == 0, "a refusal or a question wrote", call);
-            free(l); free(m);
+            free(l); free(m); free(x.bytes);
         }
         for (int i = 0; i < 8; i++) want(g->front[i] == 0xA5A5A5A5A5A5A5A5u && g->back[i] == 0xA5A5A5A5A5A5A5A5u, "a canary", -1);
     }
     if (turns >= 4000) fill(s);
     printf("%ld calls: %ld wrong; refusals", calls, bad);
-    for (int i = 1; i < 13; i++) printf(" %d:%ld", i, refusals[i]);
+    for (int i = 1; i < 15; i++) printf(" %d:%ld", i, refusals[i]);
     puts("");
     free(g); free(s); free(was);
     return bad != 0;

@@ -38,6 +38,8 @@
 mod any_bytes;
 #[cfg(test)]
 mod any_calls;
+#[cfg(test)]
+mod bad_sacks;
 mod chunk;
 mod refusal;
 mod rto;
@@ -48,7 +50,7 @@ mod timer;
 pub use chunk::{Chunk, PayloadProtocolIdentifier, ReliabilityType};
 pub use refusal::Refusal;
 pub use rto::RtoManager;
-pub use sender::{Abandoned, DataChannelStats, Expired, ExpiredTail, Sender};
+pub use sender::{Abandoned, DataChannelStats, Expired, ExpiredTail, Sacked, Sender};
 pub use timer::{ACK_INTERVAL, Expiry, Timer, TimerTable};
 
 /// Identifier of a stream.

@@ -29,11 +29,15 @@ pub enum Refusal {
     ListShort = 11,
     /// 12: an expiry that would be counted finds the timer's count at 4,294,967,295.
     CountFull = 12,
+    /// 13: the lent bytes are no SACK: under 16, of another type, or not as long as their length field and counts say.
+    BadSack = 13,
+    /// 14: a gap block starts at 0, starts behind its end, or ends beyond the newest entry in flight.
+    BadBlock = 14,
 }
 
 impl Refusal {
     /// Every refusal, in the order of its number.
-    pub const ALL: [Refusal; 12] = [
+    pub const ALL: [Refusal; 14] = [
         Refusal::BeyondLimit,
         Refusal::BadBounds,
         Refusal::NotOpen,
@@ -46,26 +50,28 @@ impl Refusal {
         Refusal::FlightFull,
         Refusal::ListShort,
         Refusal::CountFull,
+        Refusal::BadSack,
+        Refusal::BadBlock,
     ];
 
-    /// The number that the archive answers, 1 to 12.
+    /// The number that the archive answers, 1 to 14.
     pub const fn number(self) -> u8 {
         self as u8
     }
 
-    /// The refusal of a number; nothing for 0, which is "done", and for numbers above 12.
+    /// The refusal of a number; nothing for 0, which is "done", and for numbers above 14.
     pub const fn from_number(number: u8) -> Option<Refusal> {
         match number {
-            1..=12 => Some(Refusal::ALL[number as usize - 1]),
+            1..=14 => Some(Refusal::ALL[number as usize - 1]),
             _ => None,
         }
     }
 
-    /// A reply's refusal. No call answers a number above 12; an archive that does is not the one that this crate is written for.
+    /// A reply's refusal. No call answers a number above 14; an archive that does is not the one that this crate is written for.
     pub(crate) fn check(number: u8) -> Result<(), Refusal> {
         match number {
             0 => Ok(()),
-            _ => Err(Refusal::from_number(number).expect("the archive answers 0 to 12")),
+            _ => Err(Refusal::from_number(number).expect("the archive answers 0 to 14")),
         }
     }
 }
@@ -85,6 +91,8 @@ impl fmt::Display for Refusal {
             Refusal::FlightFull => "the flight is full but for the place that is kept for a terminator, and a chunk is pending",
             Refusal::ListShort => "the lent list is shorter than the list of expired TSNs",
             Refusal::CountFull => "the timer's count of expiries is at its limit",
+            Refusal::BadSack => "the lent bytes are no SACK: too short, of another type, or not as long as they say",
+            Refusal::BadBlock => "a gap block of the SACK starts at 0, starts behind its end, or ends beyond the newest entry in flight",
         })
     }
 }

@@ -35,6 +35,14 @@ pub struct Abandoned {
     pub bytes: u64,
 }
 
+/// What a SACK has acknowledged.
+#[derive(Clone, Copy, Debug, PartialEq, Eq)]
+#[non_exhaustive]
+pub struct Sacked {
+    /// The bytes that the entries held, of all streams together, each entry's once.
+    pub bytes: u64,
+}
+
 /// What a stream has accepted for sending.
 #[derive(Clone, Copy, Debug, Default, PartialEq, Eq)]
 pub struct DataChannelStats {
@@ -204,6 +212,20 @@ impl Sender {
 
     // ---- the flight
 
+    /// Reads a SACK of the peer's (RFC 9260, section 3.3.4). The lent bytes are exactly the chunk, which the host cuts from its packet. The entries up
+    /// to its cumulative TSN are acknowledged and popped, then those of its gap blocks are acknowledged. Nothing where it is stale: its cumulative TSN
+    /// does not lie from one before the oldest in flight to the newest, or nothing is in flight. Then nothing changes.
+    ///
+    /// The bytes are not yet off the buffered amounts of their streams: give them to [`on_buffer_released`](Sender::on_buffer_released). Which stream
+    /// has how many of them is told by [`get`](Sender::get) over the flight, before the call and behind it.
+    ///
+    /// Refused, in this order: [`BadSack`](Refusal::BadSack); where it is not stale, [`BadBlock`](Refusal::BadBlock). Every block is tested before
+    /// anything changes.
+    pub fn handle_sack(&mut self, chunk: &[u8]) -> Result<Option<Sacked>, Refusal> {
+        let sacked = sys::handle_sack(&mut self.0, chunk);
+        Refusal::check(sacked.refusal).map(|()| (sacked.stale == 0).then_some(Sacked { bytes: sacked.bytes }))
+    }
+
     /// The entry of a TSN is acknowledged. Answers the bytes that it held, which it now lets go; 0 for an entry that held none and for an unknown
     /// TSN.
     pub fn mark_as_acked(&mut self, tsn: u32) -> u64 {
@@ -343,6 +365,11 @@ mod tests {
         refuses(&mut s, Refusal::NotOpen, |s| s.write(2, PayloadProtocolIdentifier::BINARY, 0, 1));
         refuses(&mut s, Refusal::MessageLong, |s| s.write(1, PayloadProtocolIdentifier::BINARY, 0, 65_537));
         refuses(&mut s, Refusal::NumbersSpent, |s| s.write(1, PayloadProtocolIdentifier::BINARY, 0, 1));
+        let mut sack = [3, 0, 0, 20, 0, 0, 0, 6, 0, 0, 0, 0, 0, 1, 0, 0, 0, 1, 0, 2];
+        refuses(&mut s, Refusal::BadSack, |s| s.handle_sack(&sack[..19]));
+        refuses(&mut s, Refusal::BadBlock, |s| s.handle_sack(&sack));
+        sack[19] = 1;
+        assert_eq!(s.handle_sack(&sack), Ok(Some(Sacked { bytes: 1200 })));
     }
 
     #[test]

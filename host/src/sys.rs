@@ -123,6 +123,16 @@ pub(crate) struct Counts {
     pub(crate) refusal: u8,
 }
 
+/// What a SACK released, unless it is stale. `low` is reserved, and 0.
+#[repr(C)]
+#[derive(Clone, Copy, Debug, PartialEq)]
+pub(crate) struct Sacked {
+    pub(crate) bytes: u64,
+    pub(crate) low: u64,
+    pub(crate) refusal: u8,
+    pub(crate) stale: u8,
+}
+
 /// Any bytes are an estimator: but only girdermoth_rto_new makes one that means something. Updates are off where `no_update` is not 0.
 #[repr(C)]
 #[derive(Clone, Copy, Debug, PartialEq)]
@@ -196,6 +206,7 @@ layout!(Freed: 24, 8; message_id 0, bytes 8, stream 16, refusal 18, some 19, uno
 layout!(Fragment: 72, 8; message_id 0, offset 8, deadline 16, since 24, tsn 32, length 36, protocol 40, value 44, nsent 48, stream 52, ssn 54,
     kind 56, refusal 57, some 58, has_deadline 59, has_since 60, unordered 61, beginning 62, ending 63, acked 64, abandoned 65, retransmit 66);
 layout!(Counts: 24, 8; messages 0, bytes 8, refusal 16);
+layout!(Sacked: 24, 8; bytes 0, low 8, refusal 16, stale 17);
 layout!(Rto: 56, 8; rto_initial 0, rto_min 8, rto_max 16, no_update 24, srtt 32, rttvar 40, rto 48);
 layout!(Timer: 24, 8; deadline 0, maximum 8, retrans 16, has_deadline 20, has_maximum 21, suppressed 22, unused 23);
 layout!(Timers: 152, 8; entries 0, rto_max 144);
@@ -226,6 +237,7 @@ unsafe extern "C" {
     pub(crate) safe fn girdermoth_abandon(s: &mut Sender, tsn: u32) -> Freed;
 
     // ---- the flight
+    unsafe fn girdermoth_handle_sack(s: &mut Sender, chunk: *const u8, length: usize) -> Sacked;
     pub(crate) safe fn girdermoth_mark_as_acked(s: &mut Sender, tsn: u32) -> Reply;
     pub(crate) safe fn girdermoth_pop(s: &mut Sender, tsn: u32) -> Fragment;
     pub(crate) safe fn girdermoth_mark_all_to_retransmit(s: &mut Sender) -> Reply;
@@ -270,6 +282,13 @@ unsafe extern "C" {
     pub(crate) safe fn girdermoth_timer_reset_retrans(s: &mut Timers, timer: usize) -> u8;
     pub(crate) safe fn girdermoth_timer_suppress_error_count(s: &mut Timers, timer: usize) -> u8;
     pub(crate) safe fn girdermoth_timer_is_expired(s: &mut Timers, timer: usize, clock: u64) -> Expiry;
+}
+
+/// With the chunk as a slice.
+pub(crate) fn handle_sack(s: &mut Sender, chunk: &[u8]) -> Sacked {
+    // SAFETY: pointer and length are those of one slice that is lent for this call, so it does not lie within the sender, which is lent as
+    // `&mut` beside it; the call is proved to read the first `length` bytes only, and keeps no pointer.
+    unsafe { girdermoth_handle_sack(s, chunk.as_ptr(), chunk.len()) }
 }
 
 /// With the list as a slice.

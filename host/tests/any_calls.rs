@@ -55,10 +55,49 @@ fn agrees(s: &Sender, oldest: u32) {
     }
 }
 
+/// A SACK of up to three blocks: what it released, and what the flight lost of its bytes and in front, is told by the flight before it.
+fn sacked(s: &mut Sender, oldest: &mut u32, rng: &mut Rng) -> Result<(), Refusal> {
+    let flight: Vec<Chunk> = (0..s.inflight_len() as u32).filter_map(|at| s.get(oldest.wrapping_add(at))).collect();
+    // few, until the flight is full
+    let covered = match rng.below(20) {
+        0 if flight.len() >= FLIGHT_ROOM - 1 => rng.below(flight.len() as u64 + 2) as u32,
+        0 => rng.below(4) as u32,
+        1 => u32::MAX,
+        2 => 1,
+        _ => 0,
+    };
+    let left = flight.len().saturating_sub(covered as usize) as u64;
+    let block = |rng: &mut Rng| {
+        let start = u64::from(rng.below(12) > 0) + rng.below(left.max(1));
+        let beyond = u64::from(rng.below(6) == 0);
+        (start, start + rng.below(left.saturating_sub(start) + 1 + beyond))
+    };
+    let blocks: Vec<(u64, u64)> = (0..rng.below(4)).map(|_| block(rng)).collect();
+    let mut sack = vec![3, 0, 0, 16 + 4 * blocks.len() as u8 + u8::from(rng.below(12) == 0)];
+    sack.extend(oldest.wrapping_add(covered).wrapping_sub(1).to_be_bytes());
+    sack.extend([0, 0, 0, 0, 0, blocks.len() as u8, 0, 0]);
+    blocks.iter().for_each(|(start, end)| sack.extend([*start as u16, *end as u16].map(u16::to_be_bytes).concat()));
+    let before = s.inflight_bytes();
+    let Some(answer) = s.handle_sack(&sack)? else {
+        assert!(flight.is_empty() || covered as usize > flight.len(), "stale with {covered} of {} covered", flight.len());
+        return Ok(());
+    };
+    assert_eq!(s.inflight_len() + covered as usize, flight.len());
+    assert_eq!(s.inflight_bytes() + answer.bytes, before);
+    *oldest = oldest.wrapping_add(covered);
+    for (place, chunk) in (0..).zip(&flight).skip(covered as usize) {
+        let offset = place + 1 - u64::from(covered);
+        let acked = chunk.acked || blocks.iter().any(|(start, end)| (*start..=*end).contains(&offset));
+        let (length, retransmit) = if acked { (0, false) } else { (chunk.length, chunk.retransmit) };
+        assert_eq!(s.get(chunk.tsn), Some(Chunk { acked, length, retransmit, ..*chunk }), "of the blocks {blocks:?}, behind {covered}");
+    }
+    Ok(())
+}
+
 #[test]
 fn whatever_is_called_the_answers_agree() {
     let share = std::env::var("GIRDERMOTH_SHARE").map_or(1, |share| share.parse().expect("GIRDERMOTH_SHARE is a number"));
-    let mut refused = [0; 13];
+    let mut refused = [0; 15];
     let (mut terminators, mut steps) = (0, 0);
     for seed in 1..=24u64.div_ceil(share) {
         let mut rng = Rng(seed.wrapping_mul(0x9E37_79B9_7F4A_7C15));
@@ -73,7 +112,7 @@ fn whatever_is_called_the_answers_agree() {
             let tsn = oldest.wrapping_add(rng.below(s.inflight_len() as u64 + 2) as u32);
             let before = asked(&s, oldest);
             let next = s.next_tsn();
-            let answer = match rng.below(15) {
+            let answer = match rng.below(17) {
                 0 => s.open_stream(stream, [0, 1, 7, 1200][rng.below(4) as usize]),
                 1 => s.set_reliability_params(stream, rng.below(2) == 0, ReliabilityType::from(rng.below(3) as u8), rng.below(60) as u32),
                 2..=4 => {
@@ -93,7 +132,8 @@ fn whatever_is_called_the_answers_agree() {
                     assert_eq!(s.mark_as_acked(tsn), u64::from(held));
                     Ok(())
                 }
-                13 => {
+                13 | 14 => sacked(&mut s, &mut oldest, &mut rng),
+                15 => {
                     let popped = s.pop(oldest);
                     oldest = oldest.wrapping_add(u32::from(popped.is_some()));
                     s.mark_all_to_retransmit();
@@ -120,5 +160,5 @@ fn whatever_is_called_the_answers_agree() {
         return;
     }
     assert!(terminators > 100);
-    assert!([1, 2, 3, 4, 6, 8, 9, 10, 11].iter().all(|number| refused[*number] > 0), "{refused:?}");
+    assert!([1, 2, 3, 4, 6, 8, 9, 10, 11, 13, 14].iter().all(|number| refused[*number] > 0), "{refused:?}");
 }

@@ -12,7 +12,7 @@ fn open(maximum: u32) -> Sender {
 }
 
 /// The number and the sentence of each, in their order.
-const SAID: [(Refusal, &str); 12] = [
+const SAID: [(Refusal, &str); 14] = [
     (Refusal::BeyondLimit, "a number is beyond its limit"),
     (Refusal::BadBounds, "the payload maximum is outside 1 to 65,515, or the RTO minimum is above the maximum"),
     (Refusal::NotOpen, "the stream is not open"),
@@ -25,6 +25,8 @@ const SAID: [(Refusal, &str); 12] = [
     (Refusal::FlightFull, "the flight is full but for the place that is kept for a terminator, and a chunk is pending"),
     (Refusal::ListShort, "the lent list is shorter than the list of expired TSNs"),
     (Refusal::CountFull, "the timer's count of expiries is at its limit"),
+    (Refusal::BadSack, "the lent bytes are no SACK: too short, of another type, or not as long as they say"),
+    (Refusal::BadBlock, "a gap block of the SACK starts at 0, starts behind its end, or ends beyond the newest entry in flight"),
 ];
 
 #[test]
@@ -35,7 +37,7 @@ fn numbers_and_sentences() {
         let error: &dyn std::error::Error = &refusal;
         assert_eq!(error.to_string(), sentence);
     }
-    assert_eq!((Refusal::from_number(0), Refusal::from_number(13), Refusal::from_number(255)), (None, None, None));
+    assert_eq!((Refusal::from_number(0), Refusal::from_number(15), Refusal::from_number(255)), (None, None, None));
 }
 
 #[test]
@@ -170,4 +172,58 @@ fn r11_a_short_list() {
     assert_eq!(list, [7; 3], "a refused call writes nothing");
     assert_eq!(s.expired_inflight(4, &mut list), Ok(&[0, 1, 2][..]));
     assert_eq!(s.expired_inflight(3, &mut []), Ok(&[][..]), "none has expired at 3");
+}
+
+/// Three messages of one chunk in flight, TSNs 0 to 2.
+fn three_in_flight() -> Sender {
+    let mut s = open(1200);
+    for _ in 0..3 {
+        s.write(1, BINARY, 0, 10).unwrap();
+        s.send_next(0).unwrap();
+    }
+    s
+}
+
+/// Type, flags, length, cumulative TSN, window, one block, no duplicates; the block.
+fn sack(cumulative: u32, start: u8, end: u8) -> [u8; 20] {
+    let [a, b, c, d] = cumulative.to_be_bytes();
+    [3, 0, 0, 20, a, b, c, d, 0, 1, 0, 0, 0, 1, 0, 0, 0, start, 0, end]
+}
+
+/// The bytes that a SACK released, or nothing where it is stale.
+fn take(s: &mut Sender, chunk: &[u8]) -> Result<Option<u64>, Refusal> {
+    s.handle_sack(chunk).map(|sacked| sacked.map(|sacked| sacked.bytes))
+}
+
+#[test]
+fn r13_no_sack() {
+    let mut s = three_in_flight();
+    let good = sack(0, 1, 2);
+    for length in 0..20 {
+        assert_eq!(take(&mut s, &good[..length]), Err(Refusal::BadSack), "{length} bytes");
+    }
+    assert_eq!(take(&mut s, &[&good[..], &[0]].concat()), Err(Refusal::BadSack), "bytes behind the chunk");
+    for (place, byte) in [(0, 0), (0, 2), (0, 4), (2, 1), (3, 16), (3, 24), (12, 64), (13, 0), (13, 2), (15, 1), (14, 64)] {
+        let mut other = good;
+        other[place] = byte;
+        assert_eq!(take(&mut s, &other), Err(Refusal::BadSack), "byte {place} is {byte}");
+        other[7] = 77;
+        assert_eq!(take(&mut s, &other), Err(Refusal::BadSack), "before stale");
+    }
+    assert_eq!(take(&mut s, &good), Ok(Some(30)));
+    assert_eq!(take(&mut s, &good[..19]), Err(Refusal::BadSack));
+}
+
+#[test]
+fn r14_a_bad_block() {
+    let mut s = three_in_flight();
+    for (start, end) in [(0, 0), (0, 1), (2, 1), (1, 3), (3, 3), (1, 255)] {
+        assert_eq!(take(&mut s, &sack(0, start, end)), Err(Refusal::BadBlock), "{start} to {end}");
+        assert_eq!(take(&mut s, &sack(3, start, end)), Ok(None), "not where it is stale");
+    }
+    assert_eq!(take(&mut s, &sack(2, 1, 1)), Err(Refusal::BadBlock), "behind the newest there is nothing");
+    assert_eq!((s.inflight_len(), s.inflight_bytes()), (3, 30));
+    assert_eq!(take(&mut s, &sack(0, 2, 2)), Ok(Some(20)));
+    assert_eq!(take(&mut s, &sack(0, 1, 2)), Ok(Some(10)), "one before the oldest is not stale");
+    assert_eq!((s.inflight_len(), s.inflight_bytes()), (2, 0));
 }

@@ -8,6 +8,7 @@ mod long;
 mod options;
 mod profiles;
 mod random;
+mod sacks;
 mod sample;
 mod script;
 mod shrink;
@@ -62,7 +63,7 @@ fn run() -> Result<bool, String> {
             }
         }
         "faults" => faults::faults(&options(400, 500, 1).read(words)?, &program, &sections),
-        "sample" => sample::sample(&options(13, 30, 7).read(words)?, &oracle, &sections),
+        "sample" => sample::sample(&options(14, 30, 7).read(words)?, &oracle, &sections),
         _ => return Err(format!("unknown command {command}")),
     };
     done.map_err(|error| error.to_string())

@@ -20,12 +20,13 @@ const LIFETIMES: &[(u64, Action)] = &[
     (2, Generator::popped_prefix),
     (4, Generator::list_expired),
     (2, Generator::acknowledge),
+    (1, Generator::sack),
     (2, Generator::pop_some),
     (1, Generator::abandon),
     (1, Generator::question),
 ];
 
-pub const PROFILES: [&Profile; 13] = [
+pub const PROFILES: [&Profile; 14] = [
     &Profile {
         name: "mixed",
         actions: &[
@@ -33,6 +34,8 @@ pub const PROFILES: [&Profile; 13] = [
             (10, Generator::send),
             (3, Generator::send_some),
             (5, Generator::acknowledge),
+            (4, Generator::sack),
+            (1, Generator::wire),
             (3, Generator::pop),
             (2, Generator::pop_some),
             (2, Generator::abandon),
@@ -92,6 +95,7 @@ pub const PROFILES: [&Profile; 13] = [
             (3, Generator::pop),
             (1, Generator::pop_some),
             (3, Generator::acknowledge),
+            (2, Generator::sack),
             (2, Generator::abandon),
             (2, Generator::tail),
             (2, Generator::expire),
@@ -138,6 +142,7 @@ pub const PROFILES: [&Profile; 13] = [
             (1, Generator::cut_off),
             (4, Generator::abandon),
             (3, Generator::acknowledge),
+            (2, Generator::sack),
             (3, Generator::pop),
             (3, Generator::pop_some),
             (2, Generator::tail),
@@ -244,6 +249,7 @@ pub const PROFILES: [&Profile; 13] = [
             (6, Generator::write),
             (6, Generator::send),
             (6, Generator::oldest_delivered),
+            (2, Generator::sack),
             (1, Generator::mark_all),
             (1, Generator::list_expired),
             (1, Generator::question),
@@ -252,6 +258,31 @@ pub const PROFILES: [&Profile; 13] = [
         ],
         streams: 8,
         payloads: &[1200],
+        kinds: ANY_KIND,
+        unordered: EITHER,
+        last_numbers: None,
+        crowd: CROWD,
+    },
+    &Profile {
+        name: "sacks",
+        actions: &[
+            (5, Generator::write),
+            (4, Generator::send_some),
+            (2, Generator::half_sent),
+            (1, Generator::fill_flight),
+            (14, Generator::sack),
+            (1, Generator::wire),
+            (2, Generator::acknowledge),
+            (1, Generator::pop),
+            (2, Generator::abandon),
+            (1, Generator::cut_off),
+            (1, Generator::tail),
+            (1, Generator::mark_all),
+            (1, Generator::list_expired),
+            (1, Generator::question),
+        ],
+        streams: 4,
+        payloads: SMALL,
         kinds: ANY_KIND,
         unordered: EITHER,
         last_numbers: None,
@@ -698,7 +729,7 @@ impl Generator {
     fn no_call(&mut self) {
         let sid = self.sid();
         let now = self.now;
-        match self.random.below(30) {
+        match self.random.below(36) {
             0 => self.say(format_args!("send")),
             1 => self.say(format_args!("send {now} 1")),
             2 => self.say(format_args!("send +{now}")),
@@ -728,6 +759,12 @@ impl Generator {
             26 => self.say(format_args!("rel {sid} 255 2 1")),
             27 => self.say(format_args!("expired {now} 1 1")),
             28 => self.say(format_args!("# a comment")),
+            29 => self.say(format_args!("put 0 0 {now}")),
+            30 => self.say(format_args!("put 0 9 {now}")),
+            31 => self.say(format_args!("put {now} 1")),
+            32 => self.say(format_args!("wipe 256")),
+            33 => self.say(format_args!("look {now}")),
+            34 => self.say(format_args!("sack -")),
             _ => self.say(format_args!("")),
         }
     }

@@ -6,7 +6,7 @@ use std::fmt;
 use crate::script::{answered, words};
 
 /// The calls of the language that both sides have.
-pub const CALLS: [&str; 44] = [
+pub const CALLS: [&str; 48] = [
     "sender",
     "open",
     "rel",
@@ -22,6 +22,7 @@ pub const CALLS: [&str; 44] = [
     "abandon",
     "expired",
     "markall",
+    "sack",
     "ack",
     "pop",
     "get",
@@ -51,9 +52,12 @@ pub const CALLS: [&str; 44] = [
     "setrto",
     "getrto",
     "state",
+    "wipe",
+    "put",
+    "look",
 ];
-/// 01's refusals are 1 to 12.
-pub const REFUSALS: usize = 12;
+/// 01's refusals are 1 to 12, a SACK's 13 and 14.
+pub const REFUSALS: usize = 14;
 
 #[derive(Clone, Default)]
 struct Counts {
@@ -96,7 +100,7 @@ impl Tally {
             Some(&place) if answer != b"bad\n" => {
                 let counts = &mut self.counts[place];
                 counts.calls += 1;
-                counts.nothing += u64::from(answer == b"none\n");
+                counts.nothing += u64::from(matches!(answer, b"none\n" | b"stale\n"));
                 if let Some(number) = refusal(answer) {
                     counts.refused[number] += 1;
                 }

@@ -134,20 +134,23 @@ impl Deref for BytesMut {
 }
 
 pub trait Buf {
-    fn take(&mut self, n: usize) -> Vec<u8>;
+    fn take<const N: usize>(&mut self) -> [u8; N];
     fn get_u8(&mut self) -> u8 {
-        self.take(1)[0]
+        u8::from_be_bytes(self.take())
     }
     fn get_u16(&mut self) -> u16 {
-        u16::from_be_bytes(self.take(2).try_into().unwrap())
+        u16::from_be_bytes(self.take())
     }
     fn get_u32(&mut self) -> u32 {
-        u32::from_be_bytes(self.take(4).try_into().unwrap())
+        u32::from_be_bytes(self.take())
     }
 }
 impl Buf for Bytes {
-    fn take(&mut self, n: usize) -> Vec<u8> {
-        self.split_to(n).to_vec()
+    fn take<const N: usize>(&mut self) -> [u8; N] {
+        let bytes = self[..N].try_into().expect("so many bytes");
+        self.off += N;
+        self.len -= N;
+        bytes
     }
 }
 pub trait BufMut {

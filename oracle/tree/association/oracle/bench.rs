@@ -5,12 +5,15 @@ use alloc::vec::Vec;
 use core::time::Duration;
 use std::time::Instant;
 
-use super::Oracle;
+use super::guard::covered;
+use super::{Oracle, single_calls};
 use crate::Side;
 use crate::association::Association;
 use crate::association::stream::{ReliabilityType, Stream, StreamState};
 use crate::association::timer::{RtoManager, Timer, TimerTable};
+use crate::chunk::Chunk;
 use crate::chunk::chunk_payload_data::{ChunkPayloadData, PayloadProtocolIdentifier as Ppi};
+use crate::chunk::chunk_selective_ack::ChunkSelectiveAck;
 
 /// What is told of a chunk.
 #[derive(Clone, Copy, Debug, PartialEq, Eq)]
@@ -91,6 +94,14 @@ impl BenchSender {
     #[inline(never)]
     pub fn pop(&mut self, tsn: u32) -> Option<BenchChunk> {
         self.a.outbound.pop(tsn).map(|c| told(&c))
+    }
+    /// The original's reader, and the single calls of the SACK that it read; nothing where that is none, or stale.
+    #[inline(never)]
+    pub fn sack(&mut self, chunk: &bytes::Bytes) -> Option<usize> {
+        let sack = ChunkSelectiveAck::unmarshal(chunk).ok()?;
+        let queue = &mut self.a.outbound;
+        let covered = covered(queue, sack.cumulative_tsn_ack)?;
+        Some(single_calls(queue, &sack, covered))
     }
     #[inline(never)]
     pub fn released(&mut self, sid: u16, n: i64) -> bool {

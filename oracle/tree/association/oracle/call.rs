@@ -161,6 +161,22 @@ pub(super) enum Call {
     State {
         parts: Parts,
     },
+    // The wire: bytes that the script puts there, and lends to the calls that read bytes.
+    Wipe {
+        byte: u8,
+    },
+    Put {
+        at: u64,
+        width: usize,
+        value: u64,
+    },
+    Look {
+        at: u64,
+        bytes: u64,
+    },
+    Sack {
+        bytes: u64,
+    },
     // The oracle's own: `replay` answers them with `bad`.
     Mode {
         guard: bool,
@@ -247,6 +263,10 @@ fn call(name: &[u8], w: &mut Words<'_>) -> Option<Call> {
         b"setrto" => Call::RtoSet { rto: w.number()?, no_update: w.flag()? },
         b"getrto" => Call::RtoGet,
         b"state" => Call::State { parts: w.parts()? },
+        b"wipe" => Call::Wipe { byte: w.number()? },
+        b"put" => Call::Put { at: w.number()?, width: w.width()?, value: w.number()? },
+        b"look" => Call::Look { at: w.number()?, bytes: w.number()? },
+        b"sack" => Call::Sack { bytes: w.number()? },
         b"mode" => Call::Mode { guard: w.guard()? },
         b"cap" => Call::Capacity { ring: w.number()?, flight: w.number()?, message: w.number()? },
         b"touch" => Call::Touch { tsn: w.number()?, now: w.number()? },
@@ -301,6 +321,11 @@ impl<'a> Words<'a> {
         self.number::<u8>().map(|n| n != 0)
     }
 
+    /// How many bytes of a number are meant.
+    fn width(&mut self) -> Option<usize> {
+        self.number().filter(|width| (1..=8).contains(width))
+    }
+
     fn timer(&mut self) -> Option<Timer> {
         Timer::VALUES.get(self.number::<u8>()? as usize).copied()
     }
@@ -351,6 +376,10 @@ mod tests {
             "state",
             "state sr",
             "rel 65535 255 255 4294967295",
+            "wipe 255",
+            "put 18446744073709551615 1 256",
+            "put 0 8 18446744073709551615",
+            "sack 18446744073709551615",
         ] {
             assert!(matches!(read(line.as_bytes()), Line::Call(_)), "{line}");
         }
@@ -378,6 +407,11 @@ mod tests {
             "state rs",
             "peek 1",
             "tstart 0 99999999999999 x",
+            "wipe 256",
+            "put 0 0 0",
+            "put 0 9 0",
+            "look 0",
+            "sack -1",
         ] {
             assert!(matches!(read(line.as_bytes()), Line::Bad), "{line}");
         }

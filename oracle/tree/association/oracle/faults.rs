@@ -7,7 +7,7 @@ use alloc::vec::Vec;
 use core::time::Duration;
 
 use super::call::Call;
-use super::guard::{CLOCK_MAX, DCEP, STREAMS, U32_MAX};
+use super::guard::{CLOCK_MAX, DCEP, STREAMS, U32_MAX, blocks, long, short};
 use super::{Oracle, put, show};
 use crate::association::stream::ReliabilityType;
 use crate::association::timer::Timer;
@@ -41,6 +41,11 @@ faults! {
     acknowledged_siblings_kept abandoned_keeps_marks abandoned_stays_under_way abandoned_again_is_nothing
     byte_off_after_ack_of_abandoned acknowledged_keeps_mark acknowledged_marked abandoned_marked
     pop_takes_any popped_bytes_stay_counted abandoned_is_earliest tsn_skips_zero
+    sack_type_not_tested sack_takes_bytes_behind_it sack_tests_flags sack_length_without_duplicates sack_length_turns
+    stale_tested_after_14 stale_without_the_one_before stale_from_the_newest_on nothing_in_flight_is_not_stale
+    stale_by_plain_numbers start_1_refused end_at_the_newest_refused end_beyond_the_newest_cut
+    start_above_end_skipped blocks_tested_one_by_one covered_one_less covered_not_popped covered_bytes_lost
+    blocks_from_the_old_oldest blocks_without_their_end overlaps_released_twice
     restart_at_the_deadline timer_alive_at_the_deadline backoff_ends_at_30 backoff_ends_at_32 ack_capped
     failure_at_the_maximum suppression_stays suppressed_expiry_refused stop_keeps_count reset_stops
     next_timeout_without_ack fresh_restart_tests_nothing
@@ -522,6 +527,232 @@ fn tsn_skips_zero(o: &mut Oracle, call: &Call, out: &mut String) -> Option<Answe
         o.association.my_next_tsn = 1;
     }
     Some(answer)
+}
+
+// ---- SACKs
+
+/// A SACK that is neither refused nor stale.
+struct Taken {
+    cumulative: u32,
+    covered: u32,
+    blocks: Vec<(usize, usize)>,
+}
+
+fn taken_sack(o: &Oracle, call: &Call) -> Option<Taken> {
+    let Call::Sack { bytes } = *call else { return None };
+    let sack = o.lent(bytes);
+    if o.refusal(call).is_some() {
+        return None;
+    }
+    let cumulative = long(sack, 4);
+    Some(Taken { cumulative, covered: o.covered(cumulative)?, blocks: blocks(sack).collect() })
+}
+
+/// The bytes of a SACK that is not one, if its 16 fixed bytes are there.
+fn refused_13(o: &Oracle, call: &Call) -> Option<Vec<u8>> {
+    let Call::Sack { bytes } = *call else { return None };
+    (o.refusal(call) == Some(13) && bytes >= 16).then(|| o.lent(bytes).to_vec())
+}
+
+impl Taken {
+    fn covered_tsns(&self) -> impl Iterator<Item = u32> {
+        (0..self.covered).rev().map(|back| self.cumulative.wrapping_sub(back))
+    }
+    fn block_tsns(&self) -> impl Iterator<Item = u32> {
+        let offsets = self.blocks.iter().flat_map(|(start, end)| *start..=*end);
+        offsets.map(|offset| self.cumulative.wrapping_add(offset as u32))
+    }
+}
+
+fn acknowledge(o: &mut Oracle, tsns: impl Iterator<Item = u32>) -> usize {
+    tsns.map(|tsn| o.association.outbound.mark_as_acked(tsn)).sum()
+}
+
+fn acknowledge_and_pop(o: &mut Oracle, tsns: impl Iterator<Item = u32>) -> usize {
+    let queue = &mut o.association.outbound;
+    tsns.map(|tsn| {
+        let bytes = queue.mark_as_acked(tsn);
+        queue.pop(tsn);
+        bytes
+    })
+    .sum()
+}
+
+fn releases(bytes: usize, out: &mut String) -> Option<Answer> {
+    put(out, format_args!("bytes={bytes}"));
+    Some(Ok(()))
+}
+
+/// The SACK, as if these bytes were lent.
+fn sack_of(o: &mut Oracle, bytes: &[u8], out: &mut String) -> Option<Answer> {
+    let wire = o.wire.clone();
+    o.wire[..bytes.len()].copy_from_slice(bytes);
+    let answer = o.sound_call(&Call::Sack { bytes: bytes.len() as u64 }, out);
+    o.wire = wire;
+    Some(answer)
+}
+
+fn sack_type_not_tested(o: &mut Oracle, call: &Call, out: &mut String) -> Option<Answer> {
+    let mut sack = refused_13(o, call)?;
+    sack[0] = 3;
+    sack_of(o, &sack, out)
+}
+
+fn sack_takes_bytes_behind_it(o: &mut Oracle, call: &Call, out: &mut String) -> Option<Answer> {
+    let sack = refused_13(o, call)?;
+    let length = short(&sack, 2);
+    if length < 16 {
+        return None;
+    }
+    sack_of(o, sack.get(..length)?, out)
+}
+
+fn sack_tests_flags(o: &mut Oracle, call: &Call, _: &mut String) -> Option<Answer> {
+    let Call::Sack { bytes } = *call else { return None };
+    refuse(13, o.lent(bytes).get(1).is_some_and(|flags| *flags != 0))
+}
+
+fn sack_length_without_duplicates(o: &mut Oracle, call: &Call, _: &mut String) -> Option<Answer> {
+    let Call::Sack { bytes } = *call else { return None };
+    refuse(13, o.refusal(call).is_none() && short(o.lent(bytes), 14) > 0)
+}
+
+fn sack_length_turns(o: &mut Oracle, call: &Call, out: &mut String) -> Option<Answer> {
+    let mut sack = refused_13(o, call)?;
+    sack[12] &= 0x3f;
+    sack_of(o, &sack, out)
+}
+
+fn stale_tested_after_14(o: &mut Oracle, call: &Call, _: &mut String) -> Option<Answer> {
+    let Call::Sack { bytes } = *call else { return None };
+    let stale = o.refusal(call).is_none() && o.covered(long(o.lent(bytes), 4)).is_none();
+    refuse(14, stale && blocks(o.lent(bytes)).any(|(start, end)| start == 0 || start > end))
+}
+
+fn stale(out: &mut String, wrongly: bool) -> Option<Answer> {
+    wrongly.then(|| put(out, "stale")).map(Ok)
+}
+
+fn stale_without_the_one_before(o: &mut Oracle, call: &Call, out: &mut String) -> Option<Answer> {
+    let wrongly = taken_sack(o, call)?.covered == 0;
+    stale(out, wrongly)
+}
+
+fn stale_from_the_newest_on(o: &mut Oracle, call: &Call, out: &mut String) -> Option<Answer> {
+    let wrongly = taken_sack(o, call)?.covered as usize == o.association.outbound.inflight_len();
+    stale(out, wrongly)
+}
+
+fn stale_by_plain_numbers(o: &mut Oracle, call: &Call, out: &mut String) -> Option<Answer> {
+    let taken = taken_sack(o, call)?;
+    let oldest = o.association.outbound.probe_oldest()?;
+    stale(out, taken.covered > 0 && taken.cumulative < oldest)
+}
+
+fn nothing_in_flight_is_not_stale(o: &mut Oracle, call: &Call, out: &mut String) -> Option<Answer> {
+    let Call::Sack { bytes } = *call else { return None };
+    let next = o.association.my_next_tsn;
+    let empty = o.refusal(call).is_none() && o.association.outbound.probe_oldest().is_none();
+    if !empty || long(o.lent(bytes), 4) != next.wrapping_sub(1) {
+        return None;
+    }
+    releases(0, out)
+}
+
+fn start_1_refused(o: &mut Oracle, call: &Call, _: &mut String) -> Option<Answer> {
+    refuse(14, taken_sack(o, call)?.blocks.iter().any(|(start, _)| *start == 1))
+}
+
+fn end_at_the_newest_refused(o: &mut Oracle, call: &Call, _: &mut String) -> Option<Answer> {
+    let taken = taken_sack(o, call)?;
+    let left = o.association.outbound.inflight_len() - taken.covered as usize;
+    refuse(14, taken.blocks.iter().any(|(_, end)| *end == left))
+}
+
+/// The SACK without the blocks that are refused, or with others in their place.
+fn with_blocks(
+    o: &mut Oracle,
+    call: &Call,
+    out: &mut String,
+    other: fn((usize, usize), usize) -> Option<(usize, usize)>,
+) -> Option<Answer> {
+    let Call::Sack { bytes } = *call else { return None };
+    if o.refusal(call) != Some(14) {
+        return None;
+    }
+    let sack = o.lent(bytes);
+    let cumulative = long(sack, 4);
+    let covered = o.covered(cumulative)?;
+    let left = o.association.outbound.inflight_len() - covered as usize;
+    let blocks: Vec<_> = blocks(sack).filter_map(|block| other(block, left)).collect();
+    if blocks.iter().any(|(start, end)| *start == 0 || start > end || *end > left) {
+        return None;
+    }
+    let taken = Taken { cumulative, covered, blocks };
+    let prefix = acknowledge_and_pop(o, taken.covered_tsns());
+    releases(prefix + acknowledge(o, taken.block_tsns()), out)
+}
+
+fn end_beyond_the_newest_cut(o: &mut Oracle, call: &Call, out: &mut String) -> Option<Answer> {
+    with_blocks(o, call, out, |(start, end), left| Some((start, end.min(left))))
+}
+
+fn start_above_end_skipped(o: &mut Oracle, call: &Call, out: &mut String) -> Option<Answer> {
+    with_blocks(o, call, out, |(start, end), _| (start <= end).then_some((start, end)))
+}
+
+fn blocks_tested_one_by_one(o: &mut Oracle, call: &Call, _: &mut String) -> Option<Answer> {
+    let Call::Sack { bytes } = *call else { return None };
+    if o.refusal(call) == Some(14) {
+        let sack = o.lent(bytes);
+        let (cumulative, (start, end)) = (long(sack, 4), blocks(sack).next()?);
+        let left = o.association.outbound.inflight_len() - o.covered(cumulative)? as usize;
+        if start > 0 && end <= left {
+            acknowledge(o, (start..=end).map(|offset| cumulative.wrapping_add(offset as u32)));
+        }
+    }
+    None
+}
+
+fn covered_one_less(o: &mut Oracle, call: &Call, out: &mut String) -> Option<Answer> {
+    let taken = taken_sack(o, call)?;
+    let prefix = acknowledge_and_pop(o, taken.covered_tsns().take(taken.covered.saturating_sub(1) as usize));
+    releases(prefix + acknowledge(o, taken.block_tsns()), out)
+}
+
+fn covered_not_popped(o: &mut Oracle, call: &Call, out: &mut String) -> Option<Answer> {
+    let taken = taken_sack(o, call)?;
+    let released = acknowledge(o, taken.covered_tsns().chain(taken.block_tsns()));
+    releases(released, out)
+}
+
+fn covered_bytes_lost(o: &mut Oracle, call: &Call, out: &mut String) -> Option<Answer> {
+    let taken = taken_sack(o, call)?;
+    acknowledge_and_pop(o, taken.covered_tsns());
+    releases(acknowledge(o, taken.block_tsns()), out)
+}
+
+fn blocks_from_the_old_oldest(o: &mut Oracle, call: &Call, out: &mut String) -> Option<Answer> {
+    let taken = taken_sack(o, call)?;
+    let prefix = acknowledge_and_pop(o, taken.covered_tsns());
+    let shifted: Vec<u32> = taken.block_tsns().map(|tsn| tsn.wrapping_sub(taken.covered)).collect();
+    releases(prefix + acknowledge(o, shifted.into_iter()), out)
+}
+
+fn blocks_without_their_end(o: &mut Oracle, call: &Call, out: &mut String) -> Option<Answer> {
+    let mut taken = taken_sack(o, call)?;
+    taken.blocks.iter_mut().for_each(|(_, end)| *end -= 1);
+    let prefix = acknowledge_and_pop(o, taken.covered_tsns());
+    releases(prefix + acknowledge(o, taken.block_tsns()), out)
+}
+
+fn overlaps_released_twice(o: &mut Oracle, call: &Call, out: &mut String) -> Option<Answer> {
+    let taken = taken_sack(o, call)?;
+    let prefix = acknowledge_and_pop(o, taken.covered_tsns());
+    let queue = &o.association.outbound;
+    let held = taken.block_tsns().filter_map(|tsn| queue.get(tsn)).map(|chunk| chunk.user_data.len()).sum::<usize>();
+    acknowledge(o, taken.block_tsns());
+    releases(prefix + held, out)
 }
 
 // ---- timers

@@ -1,7 +1,8 @@
-//! Document 01's refusals, in 01's orders. Nothing is changed here.
+//! Document 01's refusals, in 01's orders, and those of the SACK. Nothing is changed here.
 
 use super::Oracle;
 use super::call::Call;
+use crate::queue::outbound_queue::OutboundQueue;
 
 pub(super) const CLOCK_MAX: u64 = 1 << 40;
 pub(super) const U32_MAX: u64 = u32::MAX as u64;
@@ -55,6 +56,10 @@ impl Oracle {
             }
             Call::Measure { rtt } => first(&[(rtt > U32_MAX, 1)]),
             Call::RtoSet { rto, .. } => first(&[(rto > U32_MAX, 1)]),
+            Call::Sack { bytes } => {
+                let chunk = self.lent(bytes);
+                first(&[(!is_sack(chunk), 13)]).or_else(|| first(&[(self.has_bad_block(chunk), 14)]))
+            }
             _ => None,
         }
     }
@@ -78,6 +83,18 @@ impl Oracle {
         (stream.buffered_amount as u64, len.div_ceil(u64::from(stream.max_payload_size)), used)
     }
 
+    pub(super) fn covered(&self, cumulative: u32) -> Option<u32> {
+        covered(&self.association.outbound, cumulative)
+    }
+
+    /// Of a SACK that is not stale: a block with start 0, start above end, or end beyond the newest.
+    fn has_bad_block(&self, sack: &[u8]) -> bool {
+        self.covered(long(sack, 4)).is_some_and(|covered| {
+            let left = self.association.outbound.inflight_len() - covered as usize;
+            blocks(sack).any(|(start, end)| start == 0 || start > end || end > left)
+        })
+    }
+
     fn list_is_longer(&self, now: u64, room: Option<u64>) -> bool {
         let longer = |room| self.association.outbound.expired_inflight(self.at(now)).len() as u64 > room;
         room.is_some_and(longer)
@@ -88,6 +105,34 @@ impl Oracle {
         let expired = kept.deadline.is_some_and(|d| d <= self.at(now));
         expired && !kept.suppressed && kept.count as u64 == U32_MAX
     }
+}
+
+/// How many entries a cumulative TSN covers: from one before the oldest to the newest; none where the SACK is stale.
+pub(super) fn covered(queue: &OutboundQueue, cumulative: u32) -> Option<u32> {
+    let covered = cumulative.wrapping_add(1).wrapping_sub(queue.probe_oldest()?);
+    (covered as usize <= queue.inflight_len()).then_some(covered)
+}
+
+// ---- the bytes of a SACK
+
+pub(super) fn short(bytes: &[u8], at: usize) -> usize {
+    usize::from(bytes[at]) << 8 | usize::from(bytes[at + 1])
+}
+pub(super) fn long(bytes: &[u8], at: usize) -> u32 {
+    (short(bytes, at) << 16 | short(bytes, at + 2)) as u32
+}
+
+/// Type 3, 16 fixed bytes, and a length field that is 16 plus 4 for each block and duplicate, and the bytes lent.
+fn is_sack(bytes: &[u8]) -> bool {
+    bytes.len() >= 16
+        && bytes[0] == 3
+        && short(bytes, 2) == 16 + 4 * (short(bytes, 12) + short(bytes, 14))
+        && short(bytes, 2) == bytes.len()
+}
+
+/// Start and end of each block.
+pub(super) fn blocks(sack: &[u8]) -> impl Iterator<Item = (usize, usize)> {
+    sack[16..].chunks_exact(4).take(short(sack, 12)).map(|block| (short(block, 0), short(block, 2)))
 }
 
 /// The stream that a call is about and that has to be open for it.

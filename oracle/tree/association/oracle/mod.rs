@@ -3,7 +3,8 @@
 //!
 //! `mode guard` (as it starts): document 01's refusals stand in front of each call (guard.rs), and after
 //! expire_pending the stream's next SSN drops (01: "added here"). `mode raw`: the calls of the Rust alone.
-//! All else is the original's work.
+//! All else is the original's work, but that a SACK is single calls: what the original makes of one stands in a file
+//! that is a stub here.
 
 mod aim;
 pub mod bench;
@@ -30,11 +31,15 @@ use super::timer::{RtoManager, TimerTable};
 use crate::Side;
 use crate::chunk::Chunk;
 use crate::chunk::chunk_payload_data::PayloadProtocolIdentifier;
+use crate::chunk::chunk_selective_ack::ChunkSelectiveAck;
+use crate::queue::outbound_queue::OutboundQueue;
 
 /// 01's capacities; `cap` sets others.
 const RING: usize = 256;
 const FLIGHT: usize = 256;
 const MESSAGE: u32 = 65_536;
+/// The bytes of the wire.
+const WIRE: usize = 65_544;
 
 pub struct Oracle {
     /// The script's time 0.
@@ -52,6 +57,8 @@ pub struct Oracle {
     rto: RtoManager,
     /// Bytes to write: one more than a message may have, so that the Rust sees any that is too long.
     data: Vec<u8>,
+    /// Bytes of the script, for the calls that read some.
+    wire: Vec<u8>,
 }
 
 impl Default for Oracle {
@@ -74,6 +81,7 @@ impl Oracle {
             timers: TimerTable::new(None, None, 60_000),
             rto: RtoManager::new(3000, 1000, 60_000),
             data: vec![0; MESSAGE as usize + 1],
+            wire: vec![0; WIRE],
         }
     }
 
@@ -170,6 +178,15 @@ impl Oracle {
                 self.data.resize(message as usize + 1, 0);
             }
             Call::State { parts } => return self.show_state(parts, out),
+            Call::Wipe { byte } => self.wire.fill(byte),
+            Call::Put { at, width, value } => {
+                let bytes = &value.to_be_bytes()[8 - width..];
+                self.wire.iter_mut().skip(place(at)).zip(bytes).for_each(|(to, from)| *to = *from);
+            }
+            Call::Look { at, bytes } => {
+                return show::bytes(self.wire.iter().skip(place(at)).take(place(bytes)), out);
+            }
+            Call::Sack { bytes } => return self.sack(bytes, out),
             Call::Timers { .. }
             | Call::TimerSet { .. }
             | Call::TimerStart { .. }
@@ -272,6 +289,21 @@ impl Oracle {
             let start = ring.partition_point(|chunk| chunk.message_id < number);
             ring.get(start).map(|chunk| chunk.user_data.as_ptr() as usize)
         })
+    }
+
+    /// The first bytes of the wire: as many as there are.
+    fn lent(&self, bytes: u64) -> &[u8] {
+        &self.wire[..place(bytes)]
+    }
+
+    /// The original's reader, and the single calls that its fields mean.
+    fn sack(&mut self, bytes: u64, out: &mut String) {
+        let sack = match ChunkSelectiveAck::unmarshal(&self.lent(bytes).to_vec().into()) {
+            Ok(sack) => sack,
+            Err(error) => return put(out, format_args!("err {error:?}")),
+        };
+        let Some(covered) = self.covered(sack.cumulative_tsn_ack) else { return put(out, "stale") };
+        put(out, format_args!("bytes={}", single_calls(&mut self.association.outbound, &sack, covered)));
     }
 
     fn perform_queue(&mut self, call: &Call, out: &mut String) {
@@ -379,6 +411,25 @@ impl Oracle {
         }
         put(out, "ok");
     }
+}
+
+/// The covered prefix is acknowledged and popped, then the blocks are acknowledged; what these calls released.
+fn single_calls(queue: &mut OutboundQueue, sack: &ChunkSelectiveAck, covered: u32) -> usize {
+    let mut released = 0;
+    for back in (0..covered).rev() {
+        let tsn = sack.cumulative_tsn_ack.wrapping_sub(back);
+        released += queue.mark_as_acked(tsn);
+        queue.pop(tsn);
+    }
+    for offset in sack.gap_ack_blocks.iter().flat_map(|block| block.start..=block.end) {
+        released += queue.mark_as_acked(sack.cumulative_tsn_ack.wrapping_add(offset.into()));
+    }
+    released
+}
+
+/// A place of the wire, or its end.
+fn place(at: u64) -> usize {
+    at.min(WIRE as u64) as usize
 }
 
 fn put(out: &mut String, text: impl Display) {

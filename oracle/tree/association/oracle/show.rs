@@ -35,12 +35,20 @@ pub(super) fn expiry(expired: bool, failure: bool, count: usize, out: &mut Strin
     put(out, format_args!("expired={expired} failure={failure} count={count}"));
 }
 
-/// The length and the first 16 bytes of a chunk as written to the wire.
-pub(super) fn wire(bytes: &[u8], out: &mut String) {
-    put(out, format_args!("n={} ", bytes.len()));
-    for byte in bytes.iter().take(16) {
+/// Two digits for each byte, or the word of none.
+pub(super) fn bytes<'a>(bytes: impl ExactSizeIterator<Item = &'a u8>, out: &mut String) {
+    if bytes.len() == 0 {
+        put(out, "-");
+    }
+    for byte in bytes {
         put(out, format_args!("{byte:02x}"));
     }
+}
+
+/// The length and the first 16 bytes of a chunk as written to the wire.
+pub(super) fn wire(chunk: &[u8], out: &mut String) {
+    put(out, format_args!("n={} ", chunk.len()));
+    bytes(chunk.iter().take(16), out);
 }
 
 impl Oracle {
