@@ -58,7 +58,7 @@ pub struct Counts {
 }
 
 // What a SACK released, or that it is stale.
-// `low` is 0: the place is kept for how many streams fall to their low threshold, so that the struct of hosts changes once.
+// `low` is 0: its place is kept for how many streams fall to their low threshold, so that the struct stays when these are counted.
 #[repr(C)]
 pub struct Sacked {
     pub bytes: u64,
