@@ -60,8 +60,8 @@ Reached tsn number rs s = (made : Sender) × ((stateOf made ≡ fresh tsn number
 abbrev pub ValueRuns : Type 0
 ValueRuns = (tsn number : ℕ) → tsn < tsns → (rs : List Request) (s : Sender) → Reached tsn number rs s → AsModel tsn number rs (stateOf s) (Sums s)
 
--- demand 3's first sentence: behind any calls and SACKs, a send with its clock at most 2 ^ 40, something pending and fewer than 255 entries in flight
--- yields the chunk at the head, with the next TSN
+-- demand 3's first sentence: behind any calls and SACKs, a send with its clock at most 2 ^ 40, something pending and fewer than 255 entries in
+-- flight yields the chunk at the head, with the next TSN
 abbrev pub YieldsBelow255 : Type 0
 YieldsBelow255 =
     (tsn number : ℕ) → tsn < tsns → (rs : List Request) (s s′ : Sender) → Reached tsn number rs s
