@@ -92,8 +92,8 @@ abbrev pub Pop : (tsn : ℕ) → Head → List ℕ → Head → List ℕ → Fra
 Pop tsn = Goes (flatFound tsn) (pop tsn)
 
 -- Reads the peer's SACK, of exactly the chunk's bytes: the covered prefix is acknowledged and popped, then the blocks are acknowledged; a stale one changes nothing. Refusals: 13; 14 where it is not stale.
-abbrev pub HandleSack : Room → (packet : List ℕ) → Head → List ℕ → Head → List ℕ → Sacked → Type 0
-HandleSack room packet = GoesOrStays refusalOfSacked flatSacked (sack room packet)
+abbrev pub HandleSack : Room → (chunk : List ℕ) → Head → List ℕ → Head → List ℕ → Sacked → Type 0
+HandleSack room chunk = GoesOrStays refusalOfSacked flatSacked (sack room chunk)
 
 -- Every entry that is neither acknowledged nor abandoned is to be retransmitted.
 abbrev pub MarkAllToRetransmit : Head → List ℕ → Head → List ℕ → Reply → Type 0

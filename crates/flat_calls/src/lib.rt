@@ -233,11 +233,11 @@ pub fn pop(head: Head, cells: &mut [u64], tsn: u32) -> SaidFragment
 }
 
 // Reads the peer's SACK, of exactly the chunk's bytes: the covered prefix is acknowledged and popped, then the blocks are acknowledged; a stale one changes nothing. Refusals: 13; 14 where it is not stale.
-pub fn handle_sack(head: Head, cells: &mut [u64], packet: &[u8]) -> SaidSacked
-    ensures { λ r. ⌜ HandleSack (roomIn (now (cells .entry))) (now (packet .entry)) head (now (cells .entry)) (r .head) (now (cells .exit)) (r .reply) ⌝ }
+pub fn handle_sack(head: Head, cells: &mut [u64], chunk: &[u8]) -> SaidSacked
+    ensures { λ r. ⌜ HandleSack (roomIn (now (cells .entry))) (now (chunk .entry)) head (now (cells .entry)) (r .head) (now (cells .exit)) (r .reply) ⌝ }
 {
     let own = sender_head::by_numbers(head);
-    let after = sender_calls::flight::sack(own, cells, packet);
+    let after = sender_calls::flight::sack(own, cells, chunk);
     let answer = after.answer;
     let reply = flat::replies::sacked(answer);
     let rest = after.head;

@@ -197,10 +197,10 @@ pub extern "C" fn girdermoth_pop(s: &mut Sender, tsn: u32) -> Fragment
 
 // Reads the peer's SACK, of exactly the chunk's bytes: the covered prefix is acknowledged and popped, then the blocks are acknowledged; a stale one changes nothing. Refusals: 13; 14 where it is not stale.
 #[no_mangle]
-pub extern "C" fn girdermoth_handle_sack(s: &mut Sender, packet: &[u8]) -> Sacked
-    ensures { λ r. ⌜ HandleSack (now (packet .entry)) (now (s .entry)) (now (s .exit)) r ⌝ }
+pub extern "C" fn girdermoth_handle_sack(s: &mut Sender, chunk: &[u8]) -> Sacked
+    ensures { λ r. ⌜ HandleSack (now (chunk .entry)) (now (s .entry)) (now (s .exit)) r ⌝ }
 {
-    let r = flat_calls::handle_sack(s.head, &mut s.cells, packet);
+    let r = flat_calls::handle_sack(s.head, &mut s.cells, chunk);
     s.head = r.head;
     r.reply
 }
