@@ -311,13 +311,6 @@ pub fn timers_state(table: TimerTable, out: &mut [u8], at: usize) -> usize {
     last_three(table, out, p2)
 }
 
-// Sixteen hexadecimal digits.
-fn hexadecimal(out: &mut [u8], at: usize, n: u64) -> usize {
-    let mut digits = [0u8; 16];
-    let count = io::hex(n, 16, &mut digits);
-    lines::text(out, at, &digits[..count])
-}
-
 // The bits of a float; the estimator's spread is never a NaN, which has none.
 fn bits(value: f64) -> u64 {
     if value == value {
@@ -328,7 +321,7 @@ fn bits(value: f64) -> u64 {
 
 fn spread(out: &mut [u8], at: usize, rttvar: f64) -> usize {
     let place = lines::text(out, at, b" rttvar=");
-    hexadecimal(out, place, bits(rttvar))
+    lines::hexadecimal(out, place, bits(rttvar), 16)
 }
 
 fn bounds(out: &mut [u8], at: usize, manager: RtoManager) -> usize {

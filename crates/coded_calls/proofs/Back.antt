@@ -1,4 +1,4 @@
--- By the answer; a flag or a moment is what it was.
+-- By the reply; a flag or a moment is what it was.
 use mathlib.Core.Path.{_≡_, refl, ap}
 use mathlib.Core.Bool.{Bool, true, false}
 use mathlib.Core.List.{List, _++_}
@@ -15,15 +15,17 @@ use Rattle.model.specs.declared.Earliest.{Earliest}
 use Rattle.model.specs.declared.Expired.{Expired}
 use Rattle.model.specs.declared.Found.{Found}
 use Rattle.model.specs.declared.Released.{Released}
+use Rattle.model.specs.declared.Sacked.{Sacked}
 use Rattle.model.specs.declared.Sent.{Sent}
 use Rattle.model.specs.declared.TailExpired.{TailExpired}
 use Rattle.model.specs.declared.Written.{Written}
 use Rattle.model.specs.Records.{makeMessage, makeChunk}
 use Rattle.model.specs.Rings.{tsnsAre, refused}
-use Rattle.model.specs.Calls.{toldOf, toDo, toWrite, toRelease, toSend, toExpire, toExpireTail, toAbandon, toFind, toSeek, toMeasure, toCount, toList, number, yesNo}
+use Rattle.model.specs.Calls.{Answer, toDo, toWrite, toRelease, toSend, toExpire, toExpireTail, toAbandon, toFind, toSeek, toMeasure, toCount, toList, number, yesNo}
+use Rattle.model.specs.Requests.{answered, sacked}
 use Rattle.cells.specs.Words.{bitOf}
-use Rattle.coded_calls.specs.Words.{present, time, chunkWords}
-use Rattle.coded_calls.specs.Back.{flag, moment, chunkFrom, Read, plain, WordsTell, WordsAreTold}
+use Rattle.coded_calls.specs.Words.{present, time, chunkWords, words}
+use Rattle.coded_calls.specs.Back.{flag, moment, chunkFrom, Read, plain, readBack, toldReply, WordsTell, WordsAreTold}
 
 flag-back : (b : Bool) → flag (bitOf b) ≡ b
 flag-back true = refl
@@ -40,36 +42,42 @@ chunk-back c us = λ i.
     makeChunk x (flag-back (c .beginning) i) (flag-back (c .ending) i) (c .offset) (c .length) (moment-back (c .since) i) (c .nsent)
     (flag-back (c .acked) i) (flag-back (c .abandoned) i) (flag-back (c .retransmit) i)
 
+answer-told : (a : Answer) (us : List ℕ) → readBack (words a ++ us) ≡ plain a us
+answer-told (toDo (Done.Refused n)) us = refl
+answer-told (toDo Done.Done) us = refl
+answer-told (toWrite (Written.Refused n)) us = refl
+answer-told (toWrite (Written.Accepted high)) us = ap (λ (b : Bool). plain (toWrite (Written.Accepted b)) us) (flag-back high)
+answer-told (toRelease (Released.Refused n)) us = refl
+answer-told (toRelease (Released.Told low)) us = ap (λ (b : Bool). plain (toRelease (Released.Told b)) us) (flag-back low)
+answer-told (toSend (Sent.Refused n)) us = refl
+answer-told (toSend (Sent.Yielded t c)) us = ap (λ (d : Chunk). plain (toSend (Sent.Yielded t d)) us) (chunk-back c us)
+answer-told (toSend Sent.Nothing) us = refl
+answer-told (toExpire (Expired.Refused n)) us = refl
+answer-told (toExpire (Expired.Message id u b)) us = ap (λ (f : Bool). plain (toExpire (Expired.Message id f b)) us) (flag-back u)
+answer-told (toExpire Expired.Nothing) us = refl
+answer-told (toExpireTail (TailExpired.Refused n)) us = refl
+answer-told (toExpireTail (TailExpired.Message id n b)) us = refl
+answer-told (toExpireTail TailExpired.Nothing) us = refl
+answer-told (toAbandon Abandoned.Nothing) us = refl
+answer-told (toAbandon (Abandoned.Message id b)) us = refl
+answer-told (toFind Found.Nothing) us = refl
+answer-told (toFind (Found.One c)) us = ap (λ (d : Chunk). plain (toFind (Found.One d)) us) (chunk-back c us)
+answer-told (toSeek Earliest.Nothing) us = refl
+answer-told (toSeek (Earliest.Tsn t)) us = refl
+answer-told (toMeasure (Amount.Refused n)) us = refl
+answer-told (toMeasure (Amount.Is x)) us = refl
+answer-told (toCount (Counted.Refused n)) us = refl
+answer-told (toCount (Counted.Are s)) us = refl
+answer-told (toList (refused n)) us = refl
+answer-told (toList (tsnsAre l)) us = λ i. plain (toList (tsnsAre (take-at l us (length l) refl i))) (drop-at l us (length l) refl i)
+answer-told (number x) us = refl
+answer-told (yesNo b) us = ap (λ (f : Bool). plain (yesNo f) us) (flag-back b)
+
 pub words-tell : WordsTell
-words-tell (toDo (Done.Refused n)) us = refl
-words-tell (toDo Done.Done) us = refl
-words-tell (toWrite (Written.Refused n)) us = refl
-words-tell (toWrite (Written.Accepted high)) us = ap (λ (b : Bool). plain (toWrite (Written.Accepted b)) us) (flag-back high)
-words-tell (toRelease (Released.Refused n)) us = refl
-words-tell (toRelease (Released.Told low)) us = ap (λ (b : Bool). plain (toRelease (Released.Told b)) us) (flag-back low)
-words-tell (toSend (Sent.Refused n)) us = refl
-words-tell (toSend (Sent.Yielded t c)) us = ap (λ (d : Chunk). plain (toSend (Sent.Yielded t d)) us) (chunk-back c us)
-words-tell (toSend Sent.Nothing) us = refl
-words-tell (toExpire (Expired.Refused n)) us = refl
-words-tell (toExpire (Expired.Message id u b)) us = ap (λ (f : Bool). plain (toExpire (Expired.Message id f b)) us) (flag-back u)
-words-tell (toExpire Expired.Nothing) us = refl
-words-tell (toExpireTail (TailExpired.Refused n)) us = refl
-words-tell (toExpireTail (TailExpired.Message id n b)) us = refl
-words-tell (toExpireTail TailExpired.Nothing) us = refl
-words-tell (toAbandon Abandoned.Nothing) us = refl
-words-tell (toAbandon (Abandoned.Message id b)) us = refl
-words-tell (toFind Found.Nothing) us = refl
-words-tell (toFind (Found.One c)) us = ap (λ (d : Chunk). plain (toFind (Found.One d)) us) (chunk-back c us)
-words-tell (toSeek Earliest.Nothing) us = refl
-words-tell (toSeek (Earliest.Tsn t)) us = refl
-words-tell (toMeasure (Amount.Refused n)) us = refl
-words-tell (toMeasure (Amount.Is x)) us = refl
-words-tell (toCount (Counted.Refused n)) us = refl
-words-tell (toCount (Counted.Are s)) us = refl
-words-tell (toList (refused n)) us = refl
-words-tell (toList (tsnsAre l)) us = λ i. plain (toList (tsnsAre (take-at l us (length l) refl i))) (drop-at l us (length l) refl i)
-words-tell (number x) us = refl
-words-tell (yesNo b) us = ap (λ (f : Bool). plain (yesNo f) us) (flag-back b)
+words-tell (answered a) us = answer-told a us
+words-tell (sacked (Sacked.Refused n)) us = refl
+words-tell (sacked (Sacked.Released b)) us = refl
+words-tell (sacked Sacked.Stale) us = refl
 
 pub words-are-told : WordsAreTold
-words-are-told a us = ap (λ (r : Read). toldOf (r .answer)) (words-tell a us)
+words-are-told r us = ap (λ (x : Read). toldReply (x .reply)) (words-tell r us)

@@ -1,12 +1,13 @@
--- The table of coded calls: the first word is a row's number, the next four are its arguments.
+-- The table of coded requests: the first word is a row's number, the next four are its arguments.
 use mathlib.Core.Bool.{Bool}
 use mathlib.Core.List.{List, [], _∷_}
-use Prim.Native.Nat.{ℕ, _-_, _%_, _^_, _≤_, min}
-use lib.ListN.{getD}
+use Prim.Native.Nat.{ℕ, _+_, _-_, _%_, _^_, _≤_, min}
+use lib.ListN.{length, getD, take, drop}
 use lib.IntN.{ℤ, pos, negsuc}
-use lib.Dec.{ltb, eqb}
+use lib.Dec.{ltb, leb, eqb}
 use Rattle.model.specs.Lists.{if_then_else_}
 use Rattle.model.specs.Calls as Model
+use Rattle.model.specs.Requests.{Request, Single, ReadSack}
 use Rattle.calls.specs.declared.Call.{Call}
 use Rattle.calls.specs.declared.Query.{Query}
 use Rattle.calls.specs.Meant.{meant}
@@ -64,15 +65,25 @@ callIn row a b c d =
     if ltb row 30 then meant (plainOf row a b c d)
     else Model.Ask (Model.ExpiredInflight a (min b 256))
 
-abbrev pub callOf : (words : List ℕ) → Model.Call
-callOf w = callIn (getD w 0 0) (getD w 1 0) (getD w 2 0) (getD w 3 0) (getD w 4 0)
+-- so many of the bytes from a place on; none, where they do not all lie within them
+abbrev pub packetIn : (from count : ℕ) → (bytes : List ℕ) → List ℕ
+packetIn from n bytes = if leb (from + n) (length bytes) then take n (drop from bytes) else []
+
+-- but row 31 is a SACK, of a part of the bytes
+abbrev pub requestIn : (row a b c d : ℕ) → (bytes : List ℕ) → Request
+requestIn row a b c d bytes = if eqb row 31 then ReadSack (packetIn a b bytes) else Single (callIn row a b c d)
+
+abbrev pub requestOf : (words bytes : List ℕ) → Request
+requestOf w bytes = requestIn (getD w 0 0) (getD w 1 0) (getD w 2 0) (getD w 3 0) (getD w 4 0) bytes
 
 -- what the code makes of the words
-abbrev pub coded : Coded → Model.Call
-coded (Coded.Plain k) = meant k
-coded (Coded.Expired now n) = Model.Ask (Model.ExpiredInflight now n)
+abbrev pub coded : Coded → (bytes : List ℕ) → Request
+coded (Coded.Plain k) bytes = Single (meant k)
+coded (Coded.Expired now n) bytes = Single (Model.Ask (Model.ExpiredInflight now n))
+coded (Coded.Sack from n) bytes = ReadSack (packetIn from n bytes)
 
 -- a listing's room is at most 256
 abbrev pub Roomy : Coded → Type 0
 Roomy (Coded.Plain k) = Unit {0}
 Roomy (Coded.Expired now n) = n ≤ 256
+Roomy (Coded.Sack from n) = Unit {0}

@@ -1,7 +1,8 @@
--- Every call has words: the table of coded calls reaches each call whose arguments fit their types, so lists of words are any lists of calls.
+-- Every request has words: the table of coded requests reaches each call whose arguments fit their types and each SACK, so lists of words are any
+-- lists of requests.
 use mathlib.Core.Path.{_≡_}
-use mathlib.Core.List.{List, [], _∷_}
-use Prim.Native.Nat.{ℕ, _<_, _≤_, _^_}
+use mathlib.Core.List.{List, [], _∷_, _++_}
+use Prim.Native.Nat.{ℕ, _+_, _<_, _≤_, _^_}
 use lib.ListN.{length}
 use lib.IntN.{ℤ, pos, negsuc}
 use Rattle.model.specs.Calls.{
@@ -40,8 +41,9 @@ use Rattle.model.specs.Calls.{
   MarkAll,
   Ask,
 }
+use Rattle.model.specs.Requests.{Request, Single, ReadSack}
 use Rattle.cells.specs.Words.{bitOf}
-use Rattle.coded_calls.specs.Coded.{callOf}
+use Rattle.coded_calls.specs.Coded.{requestOf}
 
 -- ---- the arguments that a call can be given
 
@@ -88,7 +90,17 @@ CallFits (Pop t) = t < 2 ^ 32
 CallFits MarkAll = Unit {0}
 CallFits (Ask q) = QueryFits q
 
--- ---- the words of a call
+-- numbers of so many bits
+abbrev pub Fit : (bits : ℕ) → List ℕ → Type 0
+Fit bits [] = Unit {0}
+Fit bits (w ∷ ws) = (w < 2 ^ bits) × Fit bits ws
+
+-- of any request: a SACK is of bytes, whichever they are
+abbrev pub RequestFits : Request → Type 0
+RequestFits (Single k) = CallFits k
+RequestFits (ReadSack p) = Fit 8 p
+
+-- ---- the words of a request
 
 -- a row's number, its arguments, and three words that no row reads
 abbrev pub eight : (row a b c d : ℕ) → List ℕ
@@ -119,35 +131,40 @@ queryWords (HighThreshold id) = eight 28 id 0 0 0
 queryWords (Statistics id) = eight 29 id 0 0 0
 queryWords (ExpiredInflight now n) = eight 30 now n 0 0
 
--- every row
-abbrev pub wordsOf : Call → List ℕ
-wordsOf (Open id m) = eight 0 id m 0 0
-wordsOf (SetReliability id u k v) = eight 1 id (bitOf u) k v
-wordsOf (SetLow id x) = eight 2 id x 0 0
-wordsOf (SetHigh id x) = eight 3 id x 0 0
-wordsOf (Write id p o l) = eight 4 id p o l
-wordsOf (Release id r) = releaseWords id r
-wordsOf (StartLifetimes now) = eight 6 now 0 0 0
-wordsOf (Send now) = eight 7 now 0 0 0
-wordsOf (ExpirePending now) = eight 8 now 0 0 0
-wordsOf (ExpirePendingTail now) = eight 9 now 0 0 0
-wordsOf (Abandon t) = eight 10 t 0 0 0
-wordsOf (Acknowledge t) = eight 11 t 0 0 0
-wordsOf (Pop t) = eight 12 t 0 0 0
-wordsOf MarkAll = eight 13 0 0 0 0
-wordsOf (Ask q) = queryWords q
+-- rows 0 to 30
+abbrev pub callWords : Call → List ℕ
+callWords (Open id m) = eight 0 id m 0 0
+callWords (SetReliability id u k v) = eight 1 id (bitOf u) k v
+callWords (SetLow id x) = eight 2 id x 0 0
+callWords (SetHigh id x) = eight 3 id x 0 0
+callWords (Write id p o l) = eight 4 id p o l
+callWords (Release id r) = releaseWords id r
+callWords (StartLifetimes now) = eight 6 now 0 0 0
+callWords (Send now) = eight 7 now 0 0 0
+callWords (ExpirePending now) = eight 8 now 0 0 0
+callWords (ExpirePendingTail now) = eight 9 now 0 0 0
+callWords (Abandon t) = eight 10 t 0 0 0
+callWords (Acknowledge t) = eight 11 t 0 0 0
+callWords (Pop t) = eight 12 t 0 0 0
+callWords MarkAll = eight 13 0 0 0 0
+callWords (Ask q) = queryWords q
 
--- each fits a cell of 64 bits, as a lent list of words has them
-abbrev pub WordsFit : List ℕ → Type 0
-WordsFit [] = Unit {0}
-WordsFit (w ∷ ws) = (w < 2 ^ 64) × WordsFit ws
+-- the bytes that a request has with it
+abbrev pub bytesOf : Request → List ℕ
+bytesOf (Single k) = []
+bytesOf (ReadSack p) = p
 
--- these are the words of that call
-pub record HasWords (k : Call) (ws : List ℕ) : Type 0 where
-  pub call : callOf ws ≡ k
+-- every row: the bytes of a SACK stand from so many on
+abbrev pub wordsOf : (from : ℕ) → Request → List ℕ
+wordsOf from (Single k) = callWords k
+wordsOf from (ReadSack p) = eight 31 from (length p) 0 0
+
+-- these are the words of that request, whatever stands before and behind its bytes; each fits a cell of 64 bits, as a lent list of words has them
+pub record HasWords (from : ℕ) (r : Request) (ws : List ℕ) : Type 0 where
+  pub request : (before behind : List ℕ) → length before ≡ from → requestOf ws (before ++ (bytesOf r ++ behind)) ≡ r
   pub eight : length ws ≡ 8
-  pub fit : WordsFit ws
+  pub fit : Fit 64 ws
 
--- every call whose arguments fit has words
-abbrev pub CallsHaveWords : Type 0
-CallsHaveWords = (k : Call) → CallFits k → HasWords k (wordsOf k)
+-- every request whose arguments fit has words, where its bytes stand within the first 2 ^ 64
+abbrev pub RequestsHaveWords : Type 0
+RequestsHaveWords = (from : ℕ) (r : Request) → RequestFits r → from + length (bytesOf r) < 2 ^ 64 → HasWords from r (wordsOf from r)

@@ -6,18 +6,19 @@ use mathlib.Core.List.{List, [], _∷_}
 use Prim.Native.Nat.{ℕ, zero, suc, _-_, _+_, _%_, _<_, _≤_, _^_, min}
 use native.Mathlib.Omega.{arith}
 use lib.ListN.{length, getD}
-use borrow.Author.Tests.{lt-ltb, le-ltb}
+use borrow.Author.Tests.{lt-ltb, le-ltb, eq-eqb, ne-eqb}
 use lib.IntN.{ℤ, pos, negsuc, _-ℤ_}
 use lib.Signed.{mag}
 use mir.Syntax.{w64}
 use mir.Val.{SFits, toZ, ofZ}
 use mir.Facts.{toZ-pos, toZ-ofZ}
 use Rattle.model.specs.Calls as Model
+use Rattle.model.specs.Requests.{Single, ReadSack}
 use Rattle.model.specs.Lists.{if_then_else_}
 use Rattle.calls.specs.declared.Call.{Call}
 use Rattle.calls.specs.declared.Query.{Query}
 use Rattle.calls.specs.Meant.{meant}
-use Rattle.coded_calls.specs.Coded.{amountOf, change, question, plainOf, callOf}
+use Rattle.coded_calls.specs.Coded.{amountOf, change, question, plainOf, callIn, packetIn, requestIn, requestOf}
 
 -- -1 - n
 below : (n : ℕ) → negsuc 0 -ℤ pos n ≡ negsuc n
@@ -68,7 +69,7 @@ row-statistics row a id h q =
     let e : row ≡ suc (suc (suc (suc (suc (suc (suc (suc (suc (suc (suc (suc (suc (suc (suc (row - 15))))))))))))))) = omega arith in
     ap Query.Statistics q ∙ ap (λ (k : ℕ). question k a) (sym e)
 
--- ---- the words of a call
+-- ---- the words of a request
 
 -- past the end
 pub getD-past : (w : List ℕ) (i : ℕ) → length w ≤ i → getD w i 0 ≡ 0
@@ -87,12 +88,23 @@ is-question row a b c d h q = rw (le-ltb row 14 h) (ap Call.Ask q)
 pub all-words : {row row′ a a′ b b′ c c′ d d′ : ℕ} → row ≡ row′ → a ≡ a′ → b ≡ b′ → c ≡ c′ → d ≡ d′ → plainOf row a b c d ≡ plainOf row′ a′ b′ c′ d′
 all-words p q r s t = λ i. plainOf (p i) (q i) (r i) (s i) (t i)
 
+-- every row but one is a call
+pub is-call : {k : Model.Call} (row a b c d : ℕ) → row ≢ 31 → k ≡ callIn row a b c d → (bytes : List ℕ) → Single k ≡ requestIn row a b c d bytes
+is-call row a b c d h q bytes = rw (ne-eqb row 31 h) (ap Single q)
+
 module _ (w : List ℕ) where
   abbrev row : ℕ
   row = getD w 0 0
 
-  pub is-plain : {x : Call} → row < 30 → x ≡ plainOf row (getD w 1 0) (getD w 2 0) (getD w 3 0) (getD w 4 0) → meant x ≡ callOf w
-  is-plain h q = rw (lt-ltb row 30 h) (ap meant q)
+  pub is-plain : {x : Call} → row < 30 → x ≡ plainOf row (getD w 1 0) (getD w 2 0) (getD w 3 0) (getD w 4 0) → (bytes : List ℕ) → Single (meant x) ≡ requestOf w bytes
+  is-plain {x} h q =
+      let e : meant x ≡ callIn row (getD w 1 0) (getD w 2 0) (getD w 3 0) (getD w 4 0) = rw (lt-ltb row 30 h) (ap meant q) in
+      is-call row (getD w 1 0) (getD w 2 0) (getD w 3 0) (getD w 4 0) (λ e. omega (arith, h, e)) e
 
-  pub is-listing : (n : ℕ) → 30 ≤ row → n ≡ min (getD w 2 0) 256 → Model.Ask (Model.ExpiredInflight (getD w 1 0) n) ≡ callOf w
-  is-listing n l q = rw (le-ltb row 30 l) (ap (λ (k : ℕ). Model.Ask (Model.ExpiredInflight (getD w 1 0) k)) q)
+  pub is-listing : (now n : ℕ) → 30 ≤ row → row ≢ 31 → now ≡ getD w 1 0 → n ≡ min (getD w 2 0) 256 → (bytes : List ℕ) → Single (Model.Ask (Model.ExpiredInflight now n)) ≡ requestOf w bytes
+  is-listing now n l h t q =
+      let e : Model.Ask (Model.ExpiredInflight now n) ≡ callIn row (getD w 1 0) (getD w 2 0) (getD w 3 0) (getD w 4 0) = rw (le-ltb row 30 l) (λ i. Model.Ask (Model.ExpiredInflight (t i) (q i))) in
+      is-call row (getD w 1 0) (getD w 2 0) (getD w 3 0) (getD w 4 0) h e
+
+  pub is-sack : (from n : ℕ) → row ≡ 31 → from ≡ getD w 1 0 → n ≡ getD w 2 0 → (bytes : List ℕ) → ReadSack (packetIn from n bytes) ≡ requestOf w bytes
+  is-sack from n h p q bytes = rw (eq-eqb row 31 h) (λ i. ReadSack (packetIn (p i) (q i) bytes))

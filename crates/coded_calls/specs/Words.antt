@@ -1,4 +1,4 @@
--- The words of an answer: what kind it is (1 to 14), which case of it (0 is a refusal, or nothing), and its numbers; then the chunk or the
+-- The words of an answer: what kind it is (1 to 15), which case of it (0 is a refusal, or nothing), and its numbers; then the chunk or the
 -- TSNs that it yields. Each number has a word of its own, and the kind and the case tell how many words there are, so that an answer can be
 -- read back (`WordsTell` of Back.antt).
 use mathlib.Core.Bool.{Bool}
@@ -16,11 +16,13 @@ use Rattle.model.specs.declared.Expired.{Expired}
 use Rattle.model.specs.declared.Found.{Found}
 use Rattle.model.specs.declared.Message.{Message}
 use Rattle.model.specs.declared.Released.{Released}
+use Rattle.model.specs.declared.Sacked.{Sacked}
 use Rattle.model.specs.declared.Sent.{Sent}
 use Rattle.model.specs.declared.TailExpired.{TailExpired}
 use Rattle.model.specs.declared.Written.{Written}
 use Rattle.model.specs.Rings.{tsnsAre, refused}
 use Rattle.model.specs.Calls.{Answer, toDo, toWrite, toRelease, toSend, toExpire, toExpireTail, toAbandon, toFind, toSeek, toMeasure, toCount, toList, number, yesNo}
+use Rattle.model.specs.Requests.{Reply, answered, sacked}
 use Rattle.cells.specs.Words.{bitOf}
 
 -- whether there is one, and when
@@ -80,3 +82,10 @@ words (toList (refused n)) = front 12 0 n 0 0 []
 words (toList (tsnsAre l)) = front 12 1 (length l) 0 0 l
 words (number x) = front 13 1 x 0 0 []
 words (yesNo b) = front 14 1 (bitOf b) 0 0 []
+
+-- the words of a reply to any request
+abbrev pub replyWords : Reply → List ℕ
+replyWords (answered a) = words a
+replyWords (sacked (Sacked.Refused n)) = front 15 0 n 0 0 []
+replyWords (sacked (Sacked.Released b)) = front 15 1 b 0 0 []
+replyWords (sacked Sacked.Stale) = front 15 2 0 0 0 []

@@ -10,6 +10,7 @@ use model::Expired;
 use model::Found;
 use model::Message;
 use model::Released;
+use model::Sacked;
 use model::Sent;
 use model::TailExpired;
 use model::Written;
@@ -18,8 +19,9 @@ ghost use mathlib.Core.List.{List, _++_};
 ghost use Prim.Native.Nat.{ℕ};
 ghost use lib.Seq.{sets};
 ghost use Rattle.model.specs.Calls.{toDo, toWrite, toRelease, toSend, toExpire, toExpireTail, toAbandon, toFind, toSeek, toMeasure, toCount};
+ghost use Rattle.model.specs.Requests.{sacked};
 ghost use Rattle.calls.specs.Meant.{said};
-ghost use Rattle.coded_calls.specs.Words.{present, time, messageWords, chunkWords, words};
+ghost use Rattle.coded_calls.specs.Words.{present, time, messageWords, chunkWords, words, replyWords};
 
 // Whether there is a moment.
 fn present(m: Moment) -> u64
@@ -242,5 +244,16 @@ pub fn put_answer(tape: &mut [u64], at: usize, answer: Answer) -> usize
         Answer::ToCount(inner) => put_counted(tape, at, inner),
         Answer::Number(number) => super::tape::put_five(tape, at, 13, 1, number, 0, 0),
         Answer::YesNo(yes) => super::tape::put_five(tape, at, 14, 1, cells::bit(yes), 0, 0),
+    }
+}
+
+// The answer to a SACK.
+pub fn put_sacked(tape: &mut [u64], at: usize, answer: Sacked) -> usize
+    ensures { λ r. ⌜ ((us : List ℕ) → sets (now (tape .exit)) r us ≡ sets (now (tape .entry)) at (replyWords (sacked answer) ++ us)) ⌝ }
+{
+    match answer {
+        Sacked::Refused(n) => super::tape::put_five(tape, at, 15, 0, n as u64, 0, 0),
+        Sacked::Released(bytes) => super::tape::put_five(tape, at, 15, 1, bytes, 0, 0),
+        Sacked::Stale => super::tape::put_five(tape, at, 15, 2, 0, 0, 0),
     }
 }

@@ -1,19 +1,21 @@
-// A call in eight words: which one it is, then its arguments. Any words are a call: a number that an argument cannot have is taken modulo
-// what it can. specs/Coded.antt has the table.
+// A request in eight words: which one it is, then its arguments. Any words are one: a number that an argument cannot have is taken modulo
+// what it can. A SACK is told by where its bytes stand. specs/Coded.antt has the table.
 pub mod answers;
 pub mod tape;
 
 use calls::Call;
 use calls::Query;
 ghost use mathlib.Core.Path.{_≡_};
-ghost use Prim.Native.Nat.{_%_};
+ghost use mathlib.Core.List.{List};
+ghost use Prim.Native.Nat.{ℕ, _%_};
 ghost use lib.ListN.{getD};
-ghost use Rattle.coded_calls.specs.Coded.{amountOf, question, change, plainOf, coded, Roomy, callOf};
+ghost use Rattle.coded_calls.specs.Coded.{amountOf, question, change, plainOf, coded, Roomy, requestOf};
 
-// The list of expired TSNs needs a list that is lent with it, so it is apart.
+// The list of expired TSNs needs a list that is lent with it, and a SACK its bytes, so they are apart.
 pub enum Coded {
     Plain(Call),
     Expired { clock: u64, room: usize },
+    Sack { from: usize, count: usize },
 }
 
 // The most TSNs that a listing has room for: as many as 01's flight has entries.
@@ -145,9 +147,9 @@ fn word(words: &[u64], i: usize) -> u64
     if i < words.len() { words[i] } else { 0 }
 }
 
-// The call that the words are.
+// The request that the words are, whatever the bytes.
 pub fn read(words: &[u64]) -> Coded
-    ensures { λ r. ⌜ (coded r ≡ callOf (now (words .entry))) × Roomy r ⌝ }
+    ensures { λ r. ⌜ ((bytes : List ℕ) → coded r bytes ≡ requestOf (now (words .entry)) bytes) × Roomy r ⌝ }
 {
     let row = word(words, 0);
     let a = word(words, 1);
@@ -155,6 +157,12 @@ pub fn read(words: &[u64]) -> Coded
     if row < 30 {
         let call = plain(row, a, b, word(words, 3), word(words, 4));
         return Coded::Plain(call);
+    }
+    if row == 31 {
+        return Coded::Sack {
+            from: a as usize,
+            count: b as usize,
+        };
     }
     let room = if b < 256 { b as usize } else { LIST_MAX };
     Coded::Expired {

@@ -62,6 +62,13 @@ pub fn number(out: &mut [u8], at: usize, label: &[u8], n: u64) -> usize {
     decimal(out, place, n)
 }
 
+// So many digits, zeros in front.
+pub fn hexadecimal(out: &mut [u8], at: usize, n: u64, width: usize) -> usize {
+    let mut digits = [0u8; 16];
+    let count = io::hex(n, width, &mut digits);
+    text(out, at, &digits[..count])
+}
+
 // The i-th of the numbers, behind a `=`.
 fn value(out: &mut [u8], at: usize, letter: u8, values: &[u64], i: usize) -> usize {
     if letter == b'=' {

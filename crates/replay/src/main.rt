@@ -11,7 +11,7 @@ use sender_head::Head;
 use timer::Maximum;
 use timer::TimerTable;
 
-// All that a script's lines change, but the cells; `at` is the place behind the answers so far.
+// All that a script's lines change, but the cells and the wire; `at` is the place behind the answers so far.
 struct World {
     head: Head,
     table: TimerTable,
@@ -77,8 +77,34 @@ fn stepped(h: Head, cells: &mut [u64], out: &mut [u8], at: usize, call: Call) ->
     }
 }
 
-// What is asked of the sender alone, and a line that is no call.
-fn asked(h: Head, cells: &mut [u64], out: &mut [u8], at: usize, command: Command) -> usize {
+// The front of the wire is a SACK; a length beyond the wire's is the wire's.
+fn sacked(
+    h: Head,
+    cells: &mut [u64],
+    wire: &[u8],
+    out: &mut [u8],
+    at: usize,
+    length: u64,
+) -> Sender {
+    let n = answers::wire::place_in(wire, length);
+    let after = sender_calls::flight::sack(h, cells, &wire[0..n]);
+    let head = after.head;
+    let answer = after.answer;
+    Sender {
+        head: head,
+        at: answers::wire::sacked(out, at, answer),
+    }
+}
+
+// What is asked of the sender alone, what fills or shows the wire, and a line that is no call.
+fn asked(
+    h: Head,
+    cells: &mut [u64],
+    wire: &mut [u8],
+    out: &mut [u8],
+    at: usize,
+    command: Command,
+) -> usize {
     match command {
         Command::Bad => lines::bad(out, at),
         Command::List { clock } => answers::sender::expired_within(h, cells, out, at, clock, 256),
@@ -96,20 +122,35 @@ fn asked(h: Head, cells: &mut [u64], out: &mut [u8], at: usize, command: Command
         Command::SetBuffered { identifier, amount } => {
             answers::sender::set_buffered(h, cells, out, at, identifier, amount)
         }
+        Command::Wipe { byte } => answers::wire::wipe(wire, out, at, byte),
+        Command::Put {
+            at: from,
+            width,
+            value,
+        } => answers::wire::put(wire, out, at, from, width, value),
+        Command::Look { at: from, count } => answers::wire::look(wire, out, at, from, count),
         _ => at,
     }
 }
 
-fn sender_call(h: Head, cells: &mut [u64], out: &mut [u8], at: usize, command: Command) -> Sender {
+fn sender_call(
+    h: Head,
+    cells: &mut [u64],
+    wire: &mut [u8],
+    out: &mut [u8],
+    at: usize,
+    command: Command,
+) -> Sender {
     match command {
         Command::Sender { tsn, number } => Sender {
             head: sender_head::new(tsn, number),
             at: lines::done(out, at),
         },
         Command::Run(call) => stepped(h, cells, out, at, call),
+        Command::Sack { length } => sacked(h, cells, wire, out, at, length),
         _ => Sender {
             head: h,
-            at: asked(h, cells, out, at, command),
+            at: asked(h, cells, wire, out, at, command),
         },
     }
 }
@@ -161,7 +202,13 @@ fn rto_call(world: World, out: &mut [u8], call: RtoCall) -> World {
     with_manager(world, changed, after.at)
 }
 
-fn run(world: World, cells: &mut [u64], out: &mut [u8], command: Command) -> World {
+fn run(
+    world: World,
+    cells: &mut [u64],
+    wire: &mut [u8],
+    out: &mut [u8],
+    command: Command,
+) -> World {
     let head = world.head;
     match command {
         Command::Clock(call) => timers_call(world, out, call),
@@ -175,7 +222,7 @@ fn run(world: World, cells: &mut [u64], out: &mut [u8], command: Command) -> Wor
             with_head(world, head, place)
         }
         _ => {
-            let after = sender_call(head, cells, out, world.at, command);
+            let after = sender_call(head, cells, wire, out, world.at, command);
             let changed = after.head;
             with_head(world, changed, after.at)
         }
@@ -190,14 +237,20 @@ struct Reading {
 }
 
 // One block of the input, byte by byte; a line may go on in the next.
-fn block(reading: Reading, cells: &mut [u64], out: &mut [u8], bytes: &[u8]) -> Reading {
+fn block(
+    reading: Reading,
+    cells: &mut [u64],
+    wire: &mut [u8],
+    out: &mut [u8],
+    bytes: &[u8],
+) -> Reading {
     let mut world = reading.world;
     let mut line = reading.line;
     let mut i = 0;
     while i < bytes.len() {
         let byte = bytes[i];
         if byte == 10 {
-            world = run(world, cells, out, script::finish(line));
+            world = run(world, cells, wire, out, script::finish(line));
             line = script::start();
         } else {
             line = script::feed(line, byte);
@@ -245,7 +298,13 @@ struct Turn {
     ended: bool,
 }
 
-fn read_some(reading: Reading, cells: &mut [u64], out: &mut [u8], input: &mut [u8]) -> Turn {
+fn read_some(
+    reading: Reading,
+    cells: &mut [u64],
+    wire: &mut [u8],
+    out: &mut [u8],
+    input: &mut [u8],
+) -> Turn {
     let got = libc::read(libc::STDIN_FILENO, input);
     if got <= 0 {
         return Turn {
@@ -254,7 +313,7 @@ fn read_some(reading: Reading, cells: &mut [u64], out: &mut [u8], input: &mut [u
         };
     }
     let n = io::count(got, input);
-    let after = block(reading, cells, out, &input[..n]);
+    let after = block(reading, cells, wire, out, &input[..n]);
     Turn {
         reading: after,
         ended: false,
@@ -262,22 +321,22 @@ fn read_some(reading: Reading, cells: &mut [u64], out: &mut [u8], input: &mut [u
 }
 
 // The last line may have no end of its own.
-fn last_line(reading: Reading, cells: &mut [u64], out: &mut [u8]) {
+fn last_line(reading: Reading, cells: &mut [u64], wire: &mut [u8], out: &mut [u8]) {
     let line = reading.line;
     let world = reading.world;
-    let after = run(world, cells, out, script::finish(line));
+    let after = run(world, cells, wire, out, script::finish(line));
     lines::flush(out, after.at);
 }
 
 // A proved loop has to end, and nothing says that the input does: the blocks are counted down from a number that no run uses up.
-fn all(cells: &mut [u64], out: &mut [u8], input: &mut [u8]) -> Reading {
+fn all(cells: &mut [u64], wire: &mut [u8], out: &mut [u8], input: &mut [u8]) -> Reading {
     let mut reading = Reading {
         world: fresh(),
         line: script::start(),
     };
     let mut blocks = u64::MAX;
     while blocks > 0 {
-        let next = read_some(reading, cells, out, input);
+        let next = read_some(reading, cells, wire, out, input);
         reading = next.reading;
         if next.ended {
             return reading;
@@ -289,8 +348,9 @@ fn all(cells: &mut [u64], out: &mut [u8], input: &mut [u8]) -> Reading {
 
 fn main() {
     let mut cells = [0u64; 6656];
+    let mut wire = [0u8; 65_544];
     let mut input = io::large_buffer();
     let mut out = io::large_buffer();
-    let reading = all(&mut cells, &mut out, &mut input);
-    last_line(reading, &mut cells, &mut out);
+    let reading = all(&mut cells, &mut wire, &mut out, &mut input);
+    last_line(reading, &mut cells, &mut wire, &mut out);
 }

@@ -1,5 +1,5 @@
--- Runs: lists of calls and of answers as words. Listings: a listing as words. Going: what holds between two calls of a run. Claims: of further
--- calls. Any: any list of calls has words, and the tape tells its answers.
+-- Runs: lists of requests and of replies as words. Listings: a listing as words. Going: what holds between two requests of a run. Claims: of
+-- further requests. Any: any list of requests has words and bytes, and the tape tells its replies.
 pub mod Runs
 pub mod Listings
 pub mod Going

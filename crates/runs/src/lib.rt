@@ -1,26 +1,29 @@
-// Runs a lent list of coded calls on the code's own functions, from a fresh sender in lent cells, and writes every answer on a tape. What
-// comes of it is what the model says of that list; so what holds of the model over any calls holds of the code, demand 3 first of all.
+// Runs a lent list of coded requests, calls and SACKs, on the code's own functions, from a fresh sender in lent cells, and writes every
+// answer on a tape. What comes of it is what the model says of that list; so what holds of the model over any requests holds of the code,
+// demand 3 first of all.
 use coded_calls::Coded;
 use coded_calls::LIST_MAX;
 use model::Listed;
 use sender_head::Head;
 ghost use mathlib.Core.Path.{_≡_};
 ghost use mathlib.Core.List.{List, _++_};
-ghost use Prim.Native.Nat.{ℕ, _≤_, min};
+ghost use Prim.Native.Nat.{ℕ, _+_, _≤_, min};
 ghost use lib.ListN.{length};
 ghost use lib.Seq.{sets};
+ghost use lib.Dec.{leb};
 ghost use Rattle.model.specs.State.{fresh};
 ghost use Rattle.model.specs.Rings.{expiredInflight};
-ghost use Rattle.model.specs.Calls.{run, answers, toList};
+ghost use Rattle.model.specs.Calls.{toList};
+ghost use Rattle.model.specs.Requests.{ReadSack, served};
 ghost use Rattle.demands.specs.Demand3.{Demand3};
 ghost use Rattle.outbound_queue.specs.Outbound.{Good};
 ghost use Rattle.outbound_abandon.specs.LeanListing.{Lists};
 ghost use Rattle.sender_head.specs.Whole.{roomIn, senderOf, Counted};
-ghost use Rattle.coded_calls.specs.Coded.{callOf};
+ghost use Rattle.coded_calls.specs.Coded.{packetIn, requestOf};
 ghost use Rattle.coded_calls.specs.Words.{words};
-ghost use Rattle.runs.specs.Runs.{callsIn, allWords, After};
+ghost use Rattle.runs.specs.Runs.{requestsIn, Serves, Taped};
 
-// The head behind a call, and the place behind its answer.
+// The head behind a request, and the place behind its answer.
 struct Ran {
     head: Head,
     at: usize,
@@ -78,12 +81,58 @@ fn list_expired(
     list_into(h, cells, clock, &mut list[0..n], tape, at)
 }
 
-// One call, of the words that it is coded in.
-fn one(h: Head, cells: &mut [u64], coded: &[u64], tape: &mut [u64], at: usize) -> Ran
-    ensures { λ r. ⌜ (Good (roomIn (now (cells .entry))) (senderOf h (now (cells .entry))) → Counted h (now (cells .entry)) → After (roomIn (now (cells .entry))) (callOf (now (coded .entry))) (senderOf h (now (cells .entry))) (senderOf (r .head) (now (cells .exit))) (now (tape .entry)) (now (tape .exit)) at (r .at) × Counted (r .head) (now (cells .exit))) ⌝ }
+// A SACK, of its bytes.
+fn sack(h: Head, cells: &mut [u64], packet: &[u8], tape: &mut [u64], at: usize) -> Ran
+    ensures { λ r. ⌜ Serves (ReadSack (now (packet .entry))) h (now (cells .entry)) (r .head) (now (cells .exit)) (now (tape .entry)) (now (tape .exit)) at (r .at) ⌝ }
 {
-    let call = coded_calls::read(coded);
-    match call {
+    let made = sender_calls::flight::sack(h, cells, packet);
+    let head = made.head;
+    let answer = made.answer;
+    let behind = coded_calls::answers::put_sacked(tape, at, answer);
+    Ran {
+        head: head,
+        at: behind,
+    }
+}
+
+// Whether so many bytes from a place on all lie within those that are lent.
+fn lies_within(bytes: &[u8], from: usize, count: usize) -> bool
+    ensures { λ r. ⌜ r ≡ leb (from + count) (length (now (bytes .entry))) ⌝ }
+{
+    let n = bytes.len();
+    if n < from {
+        return false;
+    }
+    if n - from < count {
+        return false;
+    }
+    true
+}
+
+// The part of the bytes that the words name.
+fn sack_within(
+    h: Head,
+    cells: &mut [u64],
+    bytes: &[u8],
+    from: usize,
+    count: usize,
+    tape: &mut [u64],
+    at: usize,
+) -> Ran
+    ensures { λ r. ⌜ Serves (ReadSack (packetIn from count (now (bytes .entry)))) h (now (cells .entry)) (r .head) (now (cells .exit)) (now (tape .entry)) (now (tape .exit)) at (r .at) ⌝ }
+{
+    if lies_within(bytes, from, count) {
+        return sack(h, cells, &bytes[from..from + count], tape, at);
+    }
+    sack(h, cells, &bytes[0..0], tape, at)
+}
+
+// One request, of the words that it is coded in.
+fn one(h: Head, cells: &mut [u64], coded: &[u64], bytes: &[u8], tape: &mut [u64], at: usize) -> Ran
+    ensures { λ r. ⌜ (Good (roomIn (now (cells .entry))) (senderOf h (now (cells .entry))) → Counted h (now (cells .entry)) → Serves (requestOf (now (coded .entry)) (now (bytes .entry))) h (now (cells .entry)) (r .head) (now (cells .exit)) (now (tape .entry)) (now (tape .exit)) at (r .at)) ⌝ }
+{
+    let request = coded_calls::read(coded);
+    match request {
         Coded::Plain(plain) => {
             let made = calls::step(h, cells, plain);
             let head = made.head;
@@ -101,19 +150,28 @@ fn one(h: Head, cells: &mut [u64], coded: &[u64], tape: &mut [u64], at: usize) -
                 at: behind,
             }
         }
+        Coded::Sack { from, count } => sack_within(h, cells, bytes, from, count, tape, at),
     }
 }
 
-// The calls of the list, one after the other. The head comes back; the cells and the tape are as the calls left them.
-pub fn run(cells: &mut [u64], tsn: u32, number: u64, coded: &[u64], tape: &mut [u64]) -> Head
-    ensures { λ r. ⌜ (senderOf r (now (cells .exit)) ≡ run (roomIn (now (cells .entry))) (callsIn (now (coded .entry))) (fresh tsn number)) × (now (tape .exit) ≡ sets (now (tape .entry)) 0 (allWords (answers (roomIn (now (cells .entry))) (callsIn (now (coded .entry))) (fresh tsn number)))) × Counted r (now (cells .exit)) × Demand3 (roomIn (now (cells .entry))) (senderOf r (now (cells .exit))) ⌝ }
+// The requests of the list, one after the other; the SACKs are parts of the bytes. The head comes back; the cells and the tape are as the
+// requests left them.
+pub fn run(
+    cells: &mut [u64],
+    tsn: u32,
+    number: u64,
+    coded: &[u64],
+    bytes: &[u8],
+    tape: &mut [u64],
+) -> Head
+    ensures { λ r. ⌜ (senderOf r (now (cells .exit)) ≡ served (roomIn (now (cells .entry))) (requestsIn (now (coded .entry)) (now (bytes .entry))) (fresh tsn number)) × Taped (roomIn (now (cells .entry))) (requestsIn (now (coded .entry)) (now (bytes .entry))) (fresh tsn number) (now (tape .entry)) (now (tape .exit)) × Counted r (now (cells .exit)) × Demand3 (roomIn (now (cells .entry))) (senderOf r (now (cells .exit))) ⌝ }
 {
     let mut head = sender_head::new(tsn, number);
     let mut at = 0;
     let n = coded.len() / 8;
     let mut i = 0;
     while i < n {
-        let ran = one(head, cells, &coded[i * 8..i * 8 + 8], tape, at);
+        let ran = one(head, cells, &coded[i * 8..i * 8 + 8], bytes, tape, at);
         head = ran.head;
         at = ran.at;
         i += 1;

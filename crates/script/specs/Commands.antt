@@ -1,10 +1,10 @@
 -- Which call a row is, of words: the calls of the sender are coded calls, and the others stand here. A number that an argument cannot have
 -- is taken modulo what it can, as in the coded calls.
 use Prim.Native.Nat.{ℕ, _-_, _/_, _%_, _^_}
-use mathlib.Core.Bool.{Bool, true, false, cond}
+use mathlib.Core.Bool.{Bool, true, false, cond, _&&_}
 use mathlib.Core.List.{List, [], _∷_}
 use lib.ListN.{getD}
-use lib.Dec.{eqb, ltb}
+use lib.Dec.{eqb, ltb, leb}
 use Rattle.limits.specs.declared.Moment.{Moment}
 use Rattle.timer.specs.declared.Timer.{Timer}
 use Rattle.timer.specs.declared.Maximum.{Maximum}
@@ -21,8 +21,12 @@ use Rattle.script.specs.Arguments.{wordsOf}
 
 -- ---- the script's own
 
-abbrev pub owns : (a b : ℕ) → List Command
-owns a b =
+-- so many of a number's bytes, one to all eight
+unfoldable pub putOf : (at width value : ℕ) → Command
+putOf at width value = cond (leb 1 width && leb width 8) (Command.Put at width value) Command.Bad
+
+abbrev pub owns : (a b c : ℕ) → List Command
+owns a b c =
     Command.Sender (a % 2 ^ 32) b
     ∷ Command.List a
     ∷ Command.ListWithin a b
@@ -31,10 +35,14 @@ owns a b =
     ∷ Command.SetBuffered (a % 2 ^ 16) (b % 2 ^ 32)
     ∷ Command.State true true true
     ∷ Command.State (eqb (a % 2) 1) (eqb (a / 2 % 2) 1) (eqb (a / 4 % 2) 1)
+    ∷ Command.Wipe (a % 2 ^ 8)
+    ∷ putOf a b c
+    ∷ Command.Look a b
+    ∷ Command.Sack a
     ∷ []
 
-unfoldable pub ownOf : (row a b : ℕ) → Command
-ownOf row a b = getD (owns a b) row Command.Bad
+unfoldable pub ownOf : (row a b c : ℕ) → Command
+ownOf row a b c = getD (owns a b c) row Command.Bad
 
 -- ---- the timers'
 
@@ -88,7 +96,7 @@ unfoldable pub madeOf : (row : ℕ) → Words → Command
 madeOf row w =
     cond (w .0)
     (cond (ltb row 1000) (Command.Run (plainOf row (w .1) (w .2) (w .3) (w .4)))
-    (cond (ltb row 2000) (ownOf (row - 1000) (w .1) (w .2))
+    (cond (ltb row 2000) (ownOf (row - 1000) (w .1) (w .2) (w .3))
     (cond (ltb row 3000) (clockOf (row - 2000) (w .1) (w .2) (w .3) (w .4) (w .5))
     (estimateOf (row - 3000) (w .1) (w .2) (w .3)))))
     Command.Bad

@@ -79,6 +79,11 @@ ShowsOwn =
     × Line "state sr" (Command.State true false true)
     × Line "state tr" (Command.State false true true)
     × Line "state str" (Command.State true true true)
+    × Line "wipe 255" (Command.Wipe 255)
+    × Line "put 65544 1 18446744073709551615" (Command.Put 65544 1 18446744073709551615)
+    × Line "put 0 8 3" (Command.Put 0 8 3)
+    × Line "look 0 18446744073709551615" (Command.Look 0 18446744073709551615)
+    × Line "sack 20" (Command.Sack 20)
     × Line " # nothing" Command.Blank
 
 -- the timers' and the estimator's
@@ -120,6 +125,10 @@ ShowsBad =
     × Bad "tget 6"
     × Bad "state ts"
     × Bad "state 1"
+    × Bad "wipe 256"
+    × Bad "put 0 0 3"
+    × Bad "put 0 9 3"
+    × Bad "sack"
     × Bad "send -1"
     × Bad "s"
     × Bad "1"

@@ -9,9 +9,10 @@ use timer::Maximum;
 use timer::Timer;
 use words::Token;
 ghost use mathlib.Core.Path.{_≡_};
-ghost use Rattle.script.specs.Commands.{ownOf, timerOf, maximumOf, momentOf, clockOf, estimateOf, madeOf, commandIn};
+ghost use Rattle.script.specs.Commands.{putOf, ownOf, timerOf, maximumOf, momentOf, clockOf, estimateOf, madeOf, commandIn};
 
 // What a line is; `SetBuffered` is the script's own. `Blank` has no word and gets no answer; `Bad` is no call. `List` asks for the expired TSNs; `ListWithin` names the room of that list.
+// `Wipe`, `Put` and `Look` are of the wire, the script's array of bytes; `Sack` reads one from its front.
 pub enum Command {
     Blank,
     Bad,
@@ -35,6 +36,21 @@ pub enum Command {
         identifier: u16,
         amount: u32,
     },
+    Wipe {
+        byte: u8,
+    },
+    Put {
+        at: u64,
+        width: u64,
+        value: u64,
+    },
+    Look {
+        at: u64,
+        count: u64,
+    },
+    Sack {
+        length: u64,
+    },
     Clock(TimerCall),
     Estimate(RtoCall),
     State {
@@ -44,9 +60,26 @@ pub enum Command {
     },
 }
 
+// The last bytes of a number, one to all eight, for a place of the wire.
+fn put(at: u64, width: u64, value: u64) -> Command
+    ensures { λ r. ⌜ r ≡ putOf at width value ⌝ }
+{
+    if width == 0 {
+        return Command::Bad;
+    }
+    if width > 8 {
+        return Command::Bad;
+    }
+    Command::Put {
+        at: at,
+        width: width,
+        value: value,
+    }
+}
+
 // The script's own.
-fn own(row: u64, a: u64, b: u64) -> Command
-    ensures { λ r. ⌜ r ≡ ownOf row a b ⌝ }
+fn own(row: u64, a: u64, b: u64, c: u64) -> Command
+    ensures { λ r. ⌜ r ≡ ownOf row a b c ⌝ }
 {
     match row {
         0 => Command::Sender {
@@ -73,6 +106,12 @@ fn own(row: u64, a: u64, b: u64) -> Command
             timers: a / 2 % 2 == 1,
             rto: a / 4 % 2 == 1,
         },
+        8 => Command::Wipe {
+            byte: (a % 256) as u8,
+        },
+        9 => put(a, b, c),
+        10 => Command::Look { at: a, count: b },
+        11 => Command::Sack { length: a },
         _ => Command::Bad,
     }
 }
@@ -179,7 +218,7 @@ fn made(row: u64, given: Words) -> Command
         return Command::Run(call);
     }
     if row < 2_000 {
-        return own(row - 1_000, given.1, given.2);
+        return own(row - 1_000, given.1, given.2, given.3);
     }
     if row < 3_000 {
         return clock(row - 2_000, given.1, given.2, given.3, given.4, given.5);

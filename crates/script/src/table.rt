@@ -28,7 +28,7 @@ pub const SIGNED: u64 = 8;
 
 pub const OPTIONAL: u64 = 9;
 
-const ROWS: usize = 53;
+const ROWS: usize = 57;
 
 const TABLE: [Row; ROWS] = [
     // the sender's
@@ -63,6 +63,10 @@ const TABLE: [Row; ROWS] = [
     Row(0o23_05_24_02_25_06, 3, SHORT, MIDDLE, NONE, NONE, 1_005), // setbuf
     Row(0o23_24_01_24_05, 1, NONE, NONE, NONE, NONE, 1_006), // state
     Row(0o23_24_01_24_05, 2, PARTS, NONE, NONE, NONE, 1_007), // state
+    Row(0o27_11_20_05, 2, OCTET, NONE, NONE, NONE, 1_008), // wipe
+    Row(0o20_25_24, 4, LONG, LONG, LONG, NONE, 1_009), // put
+    Row(0o14_17_17_13, 3, LONG, LONG, NONE, NONE, 1_010), // look
+    Row(0o23_01_03_13, 2, LONG, NONE, NONE, NONE, 1_011), // sack
     // the timers'
     Row(
         0o24_11_15_05_22_23,

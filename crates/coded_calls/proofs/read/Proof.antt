@@ -1,10 +1,9 @@
 -- By the row, of the words that were read.
-use mathlib.Core.Path.{_≡_, ap, subst, _∙_}
+use mathlib.Core.Path.{subst, _∙_}
 use Prim.Native.Nat.{ℕ, _<_}
 use native.Mathlib.Omega.{arith}
 use denote.Ref.{now}
-use Rattle.model.specs.Calls.{Ask, ExpiredInflight}
-use Rattle.coded_calls.specs.Picked.{all-words, is-plain, is-listing}
+use Rattle.coded_calls.specs.Picked.{all-words, is-plain, is-listing, is-sack}
 use borrow.Author.Needs.{needs}
 use Rattle.coded_calls.proofs.read.Statement.{statement}
 use Rattle.coded_calls.proofs.read.Tie as tie
@@ -37,17 +36,21 @@ returns-2 : tie.Need-returns-2
 returns-2 c =
     let w = now (c .before .before .before .before .before .before .args .words) in
     let e = c .before .before .before .before .word .ensures in
-    let f = c .before .before .before .word2 .ensures in
-    let g = c .before .before .word3 .ensures in
-    (ap (λ (a : ℕ). Ask (ExpiredInflight a (c .before .before .word3 .result))) f ∙ is-listing w (c .before .before .word3 .result) (omega (arith, e, c .before .if1 .left)) (omega (arith, g, c .if2 .taken)), omega (arith, c .if2 .taken))
+    (is-sack w (c .before .before .before .word2 .result) (c .before .before .word3 .result) (omega (arith, e, c .if2 .taken)) (c .before .before .before .word2 .ensures) (c .before .before .word3 .ensures), tt)
 
 returns-3 : tie.Need-returns-3
 returns-3 c =
-    let w = now (c .before .before .before .before .before .before .args .words) in
-    let e = c .before .before .before .before .word .ensures in
-    let f = c .before .before .before .word2 .ensures in
-    let g = c .before .before .word3 .ensures in
-    (ap (λ (a : ℕ). Ask (ExpiredInflight a 256)) f ∙ is-listing w 256 (omega (arith, e, c .before .if1 .left)) (omega (arith, g, c .if2 .left)), omega arith)
+    let w = now (c .before .before .before .before .before .before .before .args .words) in
+    let e = c .before .before .before .before .before .word .ensures in
+    let g = c .before .before .before .word3 .ensures in
+    (is-listing w (c .before .before .before .before .word2 .result) (c .before .before .before .word3 .result) (omega (arith, e, c .before .before .if1 .left)) (omega (arith, e, c .before .if2 .left)) (c .before .before .before .before .word2 .ensures) (omega (arith, g, c .if3 .taken)), omega (arith, c .if3 .taken))
+
+returns-4 : tie.Need-returns-4
+returns-4 c =
+    let w = now (c .before .before .before .before .before .before .before .args .words) in
+    let e = c .before .before .before .before .before .word .ensures in
+    let g = c .before .before .before .word3 .ensures in
+    (is-listing w (c .before .before .before .before .word2 .result) 256 (omega (arith, e, c .before .before .if1 .left)) (omega (arith, e, c .before .if2 .left)) (c .before .before .before .before .word2 .ensures) (omega (arith, g, c .if3 .left)), omega arith)
 
 pub read-spec : {M : Type 1} → statement M
 read-spec =
@@ -61,4 +64,5 @@ read-spec =
     plain-requires
     returns
     returns-2
-    returns-3)
+    returns-3
+    returns-4)

@@ -1,4 +1,4 @@
--- Each byte in turn; whether it ends a line or not, the cells and the buffer keep their lengths.
+-- Each byte in turn; whether it ends a line or not, the cells, the wire and the buffer keep their lengths.
 use mathlib.Core.Path.{_≡_, refl}
 use mathlib.Core.Logic.{⊎-elim}
 use Prim.Native.Nat.{_-_, _≤_}
@@ -9,13 +9,14 @@ use Rattle.replay.proofs.block.Statement.{statement}
 use Rattle.replay.proofs.block.Tie as tie
 
 abbrev Inv-loop : tie.InvT-loop
-Inv-loop cells₀ out₀ bytes world₀ line₀ i₀ cells out world line i = (i ≤ length bytes) × (length cells ≡ length cells₀) × (length out ≡ length out₀)
+Inv-loop cells₀ wire₀ out₀ bytes world₀ line₀ i₀ cells wire out world line i =
+    (i ≤ length bytes) × (length cells ≡ length cells₀) × (length wire ≡ length wire₀) × (length out ≡ length out₀)
 
 abbrev μ-loop : tie.MeasureT-loop
-μ-loop cells₀ out₀ bytes world₀ line₀ i₀ cells out world line i = length bytes - i
+μ-loop cells₀ wire₀ out₀ bytes world₀ line₀ i₀ cells wire out world line i = length bytes - i
 
 loop-holds : tie.Need-loop-holds Inv-loop μ-loop
-loop-holds c = (omega arith, refl, refl)
+loop-holds c = (omega arith, refl, refl, refl)
 
 shared-slice-read-byte : tie.Need-shared-slice-read-byte Inv-loop μ-loop
 shared-slice-read-byte c = search needs
@@ -39,13 +40,16 @@ loop-less : tie.Need-loop-less Inv-loop μ-loop
 loop-less c = search needs
 
 loop-again : tie.Need-loop-again Inv-loop μ-loop
-loop-again c = ⊎-elim (λ w. (omega arith, cc, cc)) (λ w. (omega arith, cc, cc)) (c .if1 .came)
+loop-again c = ⊎-elim (λ w. (omega arith, cc, cc, cc)) (λ w. (omega arith, cc, cc, cc)) (c .if1 .came)
 
 same-length : tie.Need-same-length Inv-loop μ-loop
 same-length c = search needs
 
 same-length-2 : tie.Need-same-length-2 Inv-loop μ-loop
 same-length-2 c = search needs
+
+same-length-3 : tie.Need-same-length-3 Inv-loop μ-loop
+same-length-3 c = search needs
 
 returns : tie.Need-returns Inv-loop μ-loop
 returns c = search needs
@@ -67,4 +71,5 @@ block-spec =
     loop-again
     same-length
     same-length-2
+    same-length-3
     returns)

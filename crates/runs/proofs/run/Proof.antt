@@ -1,4 +1,4 @@
--- Between two calls the state is one that calls have reached, so that each call is the model's; the rest of the list is still to come.
+-- Between two requests the state is one that requests have reached, so that each is the model's; the rest of the list is still to come.
 use mathlib.Core.Path.{_≡_, refl, sym, subst}
 use Prim.Native.Nat.{_-_, _/_, _^_, _≤_, _<_}
 use native.Mathlib.Omega.{arith}
@@ -7,32 +7,31 @@ use denote.Ref.{now}
 use Rattle.limits.specs.Limits.{Room, tsns}
 use Rattle.model.specs.State.{fresh}
 use Rattle.demands.specs.Demand3.{Demand3}
-use Rattle.demands.proofs.Demand3.{from-fresh}
-use Rattle.demands.proofs.States.{every-state}
+use Rattle.demands.proofs.Requests.{requests-from-fresh, every-state-served}
 use Rattle.outbound_queue.specs.Outbound.{Good, kept-good}
 use Rattle.sender_head.specs.Whole.{roomIn, senderOf, Counted}
-use Rattle.runs.specs.Runs.{callsFrom, callsIn}
+use Rattle.runs.specs.Runs.{requestsFrom, requestsIn}
 use Rattle.runs.specs.Going.{Going, started, stepped, finished, same-room, after-in}
 use borrow.Author.Needs.{needs}
 use Rattle.runs.proofs.run.Statement.{statement}
 use Rattle.runs.proofs.run.Tie as tie
 
 abbrev Inv-loop : tie.InvT-loop
-Inv-loop cells₀ tsn number coded tape₀ head₀ at₀ n i₀ cells tape head at i =
+Inv-loop cells₀ tsn number coded bytes tape₀ head₀ at₀ n i₀ cells tape head at i =
     (i ≤ n) × (n ≡ length coded / 8) × (n < 2 ^ 63) × (length cells ≡ length cells₀) × (length tape ≡ length tape₀) × Counted head cells
-    × Going (roomIn cells₀) (fresh tsn number) (callsIn coded) (callsFrom (n - i) i coded) (senderOf head cells) tape₀ tape at
+    × Going (roomIn cells₀) (fresh tsn number) (requestsIn coded bytes) (requestsFrom (n - i) i coded bytes) (senderOf head cells) tape₀ tape at
 
 abbrev μ-loop : tie.MeasureT-loop
-μ-loop cells₀ tsn number coded tape₀ head₀ at₀ n i₀ cells tape head at i = n - i
+μ-loop cells₀ tsn number coded bytes tape₀ head₀ at₀ n i₀ cells tape head at i = n - i
 
 new-requires : tie.Need-new-requires Inv-loop μ-loop
 new-requires c κs = search needs
 
 loop-holds : tie.Need-loop-holds Inv-loop μ-loop
 loop-holds c =
-    let a = c .before .before .before .before .args in
+    let a = c .before .before .before .before .before .args in
     let m = c .new .ensures (now (a .cells)) in
-    (omega arith, refl, search needs, refl, refl, m .1, started (roomIn (now (a .cells))) (fresh (a .tsn) (a .number)) _ (now (a .coded)) (now (a .tape)) _ refl (m .0))
+    (omega arith, refl, search needs, refl, refl, m .1, started (roomIn (now (a .cells))) (fresh (a .tsn) (a .number)) _ (now (a .coded)) (now (a .bytes)) (now (a .tape)) _ refl (m .0))
 
 mul-one : tie.Need-mul-one Inv-loop μ-loop
 mul-one c = search needs
@@ -66,7 +65,7 @@ loop-less c = omega arith
 
 loop-again : tie.Need-loop-again Inv-loop μ-loop
 loop-again c =
-    let a = c .before .before .before .before .before .before .before .before .before .before .before .before .before .before .before .args in
+    let a = c .before .before .before .before .before .before .before .before .before .before .before .before .before .before .before .before .args in
     let l = c .before .before .before .before .before .before .before .before .before .before .loop in
     let m = c .before .before .before .before .before .one in
     let room = roomIn (now (a .cells)) in
@@ -76,9 +75,9 @@ loop-again c =
     let g = v .6 in
     let s = senderOf (l .head) (l .cells) in
     let e = same-room (now (a .cells)) (l .cells) (v .3) in
-    let good : Good room s = subst (Good room) (sym (g .reached)) (kept-good (every-state room (a .tsn) (a .number) (g .sofar))) in
+    let good : Good room s = subst (Good room) (sym (g .reached)) (kept-good (every-state-served room (a .tsn) (a .number) (g .sofar))) in
     let o = m .ensures (subst (λ (r : Room). Good r s) (sym e) good) (v .5) in
-    (omega (arith, h), v .1, v .2, search (needs, v .3), search (needs, v .4), o .1, stepped _ (l .i) coded h g (after-in e (o .0)))
+    (omega (arith, h), v .1, v .2, search (needs, v .3), search (needs, v .4), o .counted (v .5), stepped _ (l .i) coded (now (a .bytes)) h g (after-in e (o .after)))
 
 same-length : tie.Need-same-length Inv-loop μ-loop
 same-length c = search needs
@@ -88,12 +87,12 @@ same-length-2 c = search needs
 
 returns : tie.Need-returns Inv-loop μ-loop
 returns c =
-    let a = c .before .before .before .before .before .before .args in
+    let a = c .before .before .before .before .before .before .before .args in
     let l = c .before .loop in
     let room = roomIn (now (a .cells)) in
-    let f = finished _ (l .i) (now (a .coded)) (c .loop-test .left) (l .inv .6) in
+    let f = finished _ (l .i) (now (a .coded)) (now (a .bytes)) (c .loop-test .left) (l .inv .6) in
     let t : a .tsn < tsns = search needs in
-    (f .0, f .1, l .inv .5, subst (Demand3 room) (sym (f .0)) (from-fresh room (omega arith) (a .tsn) (a .number) t (callsIn (now (a .coded)))))
+    (f .0, f .1, l .inv .5, subst (Demand3 room) (sym (f .0)) (requests-from-fresh room (omega arith) (a .tsn) (a .number) t (requestsIn (now (a .coded)) (now (a .bytes)))))
 
 pub run-spec : {M : Type 1} → statement M
 run-spec =

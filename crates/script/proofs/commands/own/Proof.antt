@@ -7,17 +7,23 @@ use borrow.Author.Needs.{needs}
 use Rattle.script.proofs.commands.own.Statement.{statement}
 use Rattle.script.proofs.commands.own.Tie as tie
 
-cast-t6 : tie.Need-cast-t6
-cast-t6 c = search needs
+cast-t7 : tie.Need-cast-t7
+cast-t7 c = search needs
 
-cast-t8 : tie.Need-cast-t8
-cast-t8 c = search needs
+cast-t9 : tie.Need-cast-t9
+cast-t9 c = search needs
 
-cast-t10 : tie.Need-cast-t10
-cast-t10 c = search needs
+cast-t11 : tie.Need-cast-t11
+cast-t11 c = search needs
 
-cast-t12 : tie.Need-cast-t12
-cast-t12 c = search needs
+cast-t13 : tie.Need-cast-t13
+cast-t13 c = search needs
+
+cast-t23 : tie.Need-cast-t23
+cast-t23 c = search needs
+
+put-requires : tie.Need-put-requires
+put-requires c κs = search needs
 
 returns : tie.Need-returns
 unfolding ownOf
@@ -53,16 +59,34 @@ returns-8 c = cc
 
 returns-9 : tie.Need-returns-9
 unfolding ownOf
-returns-9 c = let x = c .before .args in past (owns (x .a) (x .b)) (x .row) Command.Bad (passed 8 (x .row) (c .match .rest))
+returns-9 c = cc
+
+returns-10 : tie.Need-returns-10
+unfolding ownOf
+returns-10 c = cc
+
+returns-11 : tie.Need-returns-11
+unfolding ownOf
+returns-11 c = cc
+
+returns-12 : tie.Need-returns-12
+unfolding ownOf
+returns-12 c = cc
+
+returns-13 : tie.Need-returns-13
+unfolding ownOf
+returns-13 c = let x = c .before .args in past (owns (x .a) (x .b) (x .c)) (x .row) Command.Bad (passed 12 (x .row) (c .match .rest))
 
 pub own-spec : {M : Type 1} → statement M
 own-spec =
     tie.close
     (tie.spec
-    cast-t6
-    cast-t8
-    cast-t10
-    cast-t12
+    cast-t7
+    cast-t9
+    cast-t11
+    cast-t13
+    cast-t23
+    put-requires
     returns
     returns-2
     returns-3
@@ -71,4 +95,8 @@ own-spec =
     returns-6
     returns-7
     returns-8
-    returns-9)
+    returns-9
+    returns-10
+    returns-11
+    returns-12
+    returns-13)
