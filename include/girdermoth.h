@@ -14,7 +14,8 @@
 //   3. what is to be sent again, by girdermoth_get;
 //   4. before EACH new chunk girdermoth_expire_pending and girdermoth_expire_pending_tail until neither frees anything; then girdermoth_send_next;
 //   5. FORWARD-TSN for what is abandoned at the front of the flight;
-//   6. the timer T3-RTX runs while anything is in flight.
+//   6. the timer T3-RTX runs while anything is in flight;
+//   7. wait until the earlier of girdermoth_next_deadline and girdermoth_timers_next_timeout, a packet or a write.
 // When a SACK comes: girdermoth_handle_sack with its bytes. What that released, or what an expiry or an abandonment freed, goes to
 // girdermoth_on_buffer_released, stream by stream.
 //

@@ -2,6 +2,8 @@
 # Writes crates/walkkit/proofs/OnLook.antt: questions over a state of a head and cells, through a `&` (or, where asked for, a `&mut`).
 #     python3 tools/mklook.py > crates/walkkit/proofs/OnLook.antt        then `rt fmt`
 import sys
+
+sys.dont_write_bytecode = True
 from mkhead import Ctx, params, nest, acc, prod, lst
 
 def gen(name, k, how):

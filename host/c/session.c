@@ -6,14 +6,16 @@
 #include <stdlib.h>
 #include <string.h>
 
-// ---- the host. What it keeps: the oldest TSN, the last that a FORWARD-TSN told, the window, and how often each chunk was sent and reported missing
+// ---- the host. What it keeps: the last TSN that a FORWARD-TSN told, the window, and how often each chunk was sent and reported missing
 enum { ROOM = GIRDERMOTH_FLIGHT_ROOM };
 static girdermoth_sender s;
 static girdermoth_timers timers;
 static girdermoth_rto rto;
-static uint32_t oldest, told;
+static uint32_t told;
 static uint64_t window;
 static struct { int sent, missing; bool again; } kept[ROOM];   // by TSN
+
+static uint32_t oldest(void) { return (uint32_t)(girdermoth_oldest_tsn(&s).yes ? girdermoth_oldest_tsn(&s) : girdermoth_next_tsn(&s)).value; }   // the next where none is in flight
 
 static void gone(uint64_t number, int how, uint16_t stream, uint64_t bytes) {
     ended(number, how);
@@ -48,26 +50,25 @@ static void expire(void) {
 }
 
 static void forward(bool once_more) {
-    packet p = {.kind = FORWARD, .cumulative = oldest - 1};
+    packet p = {.kind = FORWARD, .cumulative = oldest() - 1};
     for (girdermoth_fragment c; c = girdermoth_get(&s, p.cumulative + 1), c.some && c.abandoned; p.cumulative++) {
         int at = 0;
         while (at < p.count && p.pairs[at][0] != c.stream) at++;
         if (!c.unordered) { p.pairs[at][0] = c.stream; p.pairs[at][1] = c.ssn; p.count += at == p.count; }
     }
-    if (p.cumulative == oldest - 1 || (p.cumulative == told && !once_more)) return;
+    if (p.cumulative == oldest() - 1 || (p.cumulative == told && !once_more)) return;
     told = p.cumulative; counts[FORWARDS]++;
     put(&p);
 }
 
 static void loop(void) {
     static uint32_t list[ROOM];
-    girdermoth_expiry t3 = {0};
-    if (girdermoth_timer_get(&timers, GIRDERMOTH_T3_RTX).yes) t3 = girdermoth_timer_is_expired(&timers, GIRDERMOTH_T3_RTX, now);
+    girdermoth_expiry t3 = girdermoth_timer_is_expired(&timers, GIRDERMOTH_T3_RTX, now);
     if (t3.expired) { counts[TIMEOUTS]++; girdermoth_mark_all_to_retransmit(&s); girdermoth_timer_start(&timers, GIRDERMOTH_T3_RTX, now, girdermoth_rto_get_rto(&rto)); }
     girdermoth_start_timed_messages(&s, now);
     girdermoth_reply expired = girdermoth_expired_inflight(&s, list, ROOM, now);
     for (uint64_t i = 0; i < expired.value; i++) give_up(list[i]);
-    for (uint32_t t = oldest; after((uint32_t)girdermoth_next_tsn(&s).value, t); t++) {
+    for (uint32_t t = oldest(); after((uint32_t)girdermoth_next_tsn(&s).value, t); t++) {
         girdermoth_fragment c = girdermoth_get(&s, t);
         bool due = kept[t % ROOM].again || (t3.expired && c.retransmit);
         kept[t % ROOM].again = false;
@@ -89,20 +90,19 @@ static void loop(void) {
 
 static void sack(const packet *p) {   // what it acknowledged is told by the flight before it and behind it
     static girdermoth_fragment was[ROOM];
-    uint32_t first = oldest, entries = (uint32_t)girdermoth_inflight_len(&s).value, newest = oldest;
+    uint32_t first = oldest(), entries = (uint32_t)girdermoth_inflight_len(&s).value, newest = first;
     for (uint32_t i = 0; i < entries; i++) was[i] = girdermoth_get(&s, first + i);
-    girdermoth_sacked told = girdermoth_handle_sack(&s, p->sack, p->length);
+    girdermoth_sacked answer = girdermoth_handle_sack(&s, p->sack, p->length);
     for (uint32_t t = first; t != first + entries; t++) {
         girdermoth_fragment before = was[t - first], c = girdermoth_get(&s, t);
-        if (!c.some) oldest = t + 1;
         if (before.acked || (c.some && !c.acked)) continue;
-        newest = t; told.bytes -= before.length;
+        newest = t; answer.bytes -= before.length;
         girdermoth_on_buffer_released(&s, before.stream, before.length);
         girdermoth_timer_stop(&timers, GIRDERMOTH_T3_RTX);
         if (before.has_since && kept[t % ROOM].sent == 1) girdermoth_rto_set_new_rtt(&rto, now - before.since);
     }
-    want(told.refusal == GIRDERMOTH_DONE && told.bytes == 0, "a SACK was refused, or released other bytes than it acknowledged");
-    for (uint32_t t = oldest; after(newest, t); t++) kept[t % ROOM].again |= ++kept[t % ROOM].missing == 3;
+    want(answer.refusal == GIRDERMOTH_DONE && answer.bytes == 0, "a SACK was refused, or released other bytes than it acknowledged");
+    for (uint32_t t = oldest(); after(newest, t); t++) kept[t % ROOM].again |= ++kept[t % ROOM].missing == 3;
 }
 
 static void write_one(const wish *w) {
@@ -126,9 +126,9 @@ static void run(void) {
     begin_trial();
     window = rnd() % 2 ? 500 : 12000;
     window = 60 + rnd() % window;
-    oldest = begin_peer();
-    told = oldest - 1;
-    girdermoth_init(&s, oldest, first_number);
+    uint32_t first = begin_peer();
+    told = first - 1;
+    girdermoth_init(&s, first, first_number);
     girdermoth_timers_new(&timers, false, 0, false, 0, 2000);
     girdermoth_rto_new(&rto, 200, 50, 2000);
     for (uint16_t i = 0; i < STREAMS; i++) girdermoth_open_stream(&s, i, 10 + (uint32_t)rnd() % (PAYLOAD - 9));

@@ -242,8 +242,8 @@ impl Sender {
         sys::girdermoth_mark_all_to_retransmit(&mut self.0);
     }
 
-    /// The TSNs in flight whose message has expired and is not yet wholly acknowledged, or has a rest pending; oldest first. They are written to
-    /// the front of `list`, and answered as the part of it that they fill; the rest of `list` stays. The sender stays the same.
+    /// The TSNs in flight that are due, not abandoned, and not acknowledged or with a rest of their message pending; oldest first. They are written
+    /// to the front of `list`, and answered as the part of it that they fill; the rest of `list` stays. The sender stays the same.
     ///
     /// Refused: [`BeyondLimit`](Refusal::BeyondLimit), [`ListShort`](Refusal::ListShort).
     pub fn expired_inflight<'a>(&mut self, now: u64, list: &'a mut [u32]) -> Result<&'a [u32], Refusal> {

@@ -3,8 +3,9 @@
 // What holds over any calls stands in specs/.
 ghost use mathlib.Core.Path.{_≡_};
 ghost use Prim.Native.Nat.{_+_, _≤_, max};
+ghost use lib.Ieee.{binary64, add, mul, div};
 ghost use Rattle.limits.specs.Limits.{settingMax};
-ghost use Rattle.rto.specs.Rto.{gap, firstVar, nextVar, nextSrtt, fourTimes, clamp, settled, newOf, measuredOf, getOf, resetOf, setOf};
+ghost use Rattle.rto.specs.Rto.{f64, gap, firstVar, nextVar, nextSrtt, fourTimes, clamp, settled, newOf, measuredOf, getOf, resetOf, setOf};
 
 // srtt 0 means that the next measurement counts as the first.
 pub struct RtoManager {
@@ -48,26 +49,50 @@ fn gap_of(a: u64, b: u64) -> u64
 }
 
 // In this order and no other: each operation rounds.
-fn next_var(rttvar: f64, srtt: u64, rtt: u64) -> f64
-    ensures { λ v. ⌜ v ≡ nextVar rttvar srtt rtt ⌝ }
+fn smoothed(rttvar: f64, distance: f64) -> f64
+    ensures { λ v. ⌜ v ≡ div binary64 (add binary64 (mul binary64 (f64 6) rttvar) (mul binary64 (f64 2) distance)) (f64 8) ⌝ }
 {
-    (6.0 * rttvar + 2.0 * std::num::nearest_u64_to_f64(gap_of(srtt, rtt))) / 8.0
+    (6.0 * rttvar + 2.0 * distance) / 8.0
 }
 
-// The quotient of 7 * srtt + rtt by 8, in a form that wraps at no srtt.
+// Of an srtt within the limit: the distance is a float as it is, and one step casts it.
+fn next_var(rttvar: f64, srtt: u64, rtt: u64) -> f64
+    requires { ⌜ srtt ≤ settingMax ⌝ ∗ ⌜ rtt ≤ settingMax ⌝ }
+    ensures { λ v. ⌜ v ≡ nextVar rttvar srtt rtt ⌝ }
+{
+    smoothed(rttvar, gap_of(srtt, rtt) as f64)
+}
+
+// Of any srtt: the distance is rounded to a float.
+fn any_next_var(rttvar: f64, srtt: u64, rtt: u64) -> f64
+    ensures { λ v. ⌜ v ≡ nextVar rttvar srtt rtt ⌝ }
+{
+    smoothed(rttvar, std::num::nearest_u64_to_f64(gap_of(srtt, rtt)))
+}
+
+// Of an srtt within the limit: nothing wraps.
 fn next_srtt(srtt: u64, rtt: u64) -> u64
+    requires { ⌜ srtt ≤ settingMax ⌝ ∗ ⌜ rtt ≤ settingMax ⌝ }
+    ensures { λ s. ⌜ s ≡ nextSrtt srtt rtt ⌝ }
+{
+    (7 * srtt + rtt) / 8
+}
+
+// Of any srtt: the quotient of 7 * srtt + rtt by 8, in a form that wraps at none.
+fn any_next_srtt(srtt: u64, rtt: u64) -> u64
     requires { ⌜ rtt ≤ settingMax ⌝ }
     ensures { λ s. ⌜ s ≡ nextSrtt srtt rtt ⌝ }
 {
     7 * (srtt / 8) + (7 * (srtt % 8) + rtt) / 8
 }
 
-// Rust's cast saturates; the one used here wants its argument in range.
+// Rust's cast saturates; the one used here wants its argument in range. Rust's gives 0 below 1 and for a NaN, so the first test is at 1: the library's
+// own is there, and the compiler makes one of the two.
 fn four_times(rttvar: f64) -> u64
     ensures { λ q. ⌜ q ≡ fourTimes rttvar ⌝ }
 {
     let x = 4.0 * rttvar;
-    if x > -1.0 {
+    if x >= 1.0 {
         if x < 18446744073709551616.0 {
             return std::num::truncating_f64_to_u64(x);
         }
@@ -123,18 +148,22 @@ impl RtoManager {
         })
     }
 
-    fn settle(self, srtt: u64, rttvar: f64) -> RtoManager
-        ensures { λ t. ⌜ t ≡ settled self srtt rttvar ⌝ }
+    // What a measurement that is taken answers: srtt, and the manager with the RTO that srtt and rttvar give.
+    fn settle(self, srtt: u64, rttvar: f64) -> Measured
+        ensures { λ m. ⌜ m ≡ Measured.Srtt srtt (settled self srtt rttvar) ⌝ }
     {
-        RtoManager {
+        Measured::Srtt(
             srtt,
-            rttvar,
-            rto: clamped(self.rto_min, self.rto_max, srtt, four_times(rttvar)),
-            no_update: self.no_update,
-            rto_initial: self.rto_initial,
-            rto_min: self.rto_min,
-            rto_max: self.rto_max,
-        }
+            RtoManager {
+                srtt,
+                rttvar,
+                rto: clamped(self.rto_min, self.rto_max, srtt, four_times(rttvar)),
+                no_update: self.no_update,
+                rto_initial: self.rto_initial,
+                rto_min: self.rto_min,
+                rto_max: self.rto_max,
+            },
+        )
     }
 
     // While no_update holds, the old srtt is answered and nothing changes.
@@ -148,12 +177,19 @@ impl RtoManager {
             return Measured::Srtt(self.srtt, self);
         }
         if self.srtt == 0 {
-            return Measured::Srtt(rtt, self.settle(rtt, first_var(rtt)));
+            return self.settle(rtt, first_var(rtt));
+        }
+        // No call makes such an srtt (`InRange`). One test for srtt and rttvar, so that the compiler has one branch.
+        if self.srtt > limits::SETTING_MAX {
+            return self.settle(
+                any_next_srtt(self.srtt, rtt),
+                any_next_var(self.rttvar, self.srtt, rtt),
+            );
         }
         let srtt = next_srtt(self.srtt, rtt);
         // With the srtt that was, not the new one.
         let rttvar = next_var(self.rttvar, self.srtt, rtt);
-        Measured::Srtt(srtt, self.settle(srtt, rttvar))
+        self.settle(srtt, rttvar)
     }
 
     pub fn get_rto(self) -> u64

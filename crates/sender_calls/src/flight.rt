@@ -1,12 +1,15 @@
 // The sender's calls on the flight alone: each lends the queue's half of the cells to the crate below, and the table of streams stays. Each
-// equals 01's call of every head and every cells; the list of what has expired promises by `Finds` what it lists in states that no call makes,
-// and 01's list in every `Good` state whose numbers are kept.
+// equals the model's call of every head and every cells; the list of what has expired promises by `Finds` what it lists in states that no
+// call makes, and the model's list in every `Good` state whose numbers are kept.
 use model::Found;
 use model::Listed;
+use model::Sacked;
 use sender_head::Head;
 ghost use Rattle.model.specs.Flight.{acknowledge, pop, markAll};
+ghost use Rattle.model.specs.Sacks.{sack};
+ghost use Rattle.model.specs.Told.{toldSacked};
 ghost use Rattle.sender_head.specs.Whole.{roomIn};
-ghost use Rattle.sender_head.specs.Calls.{Goes, Becomes};
+ghost use Rattle.sender_head.specs.Calls.{Goes, Becomes, GoesOrStays};
 ghost use Rattle.sender_calls.specs.Listing.{Finds};
 
 // The bytes that the entry held.
@@ -18,6 +21,11 @@ pub struct Acked {
 pub struct Popped {
     pub head: Head,
     pub front: Found,
+}
+
+pub struct Sacking {
+    pub head: Head,
+    pub answer: Sacked,
 }
 
 // The head, whose bound of the deadlines may be another, and the answer.
@@ -58,6 +66,25 @@ pub fn pop(h: Head, cells: &[u64], tsn: u32) -> Popped
             streams: h.streams,
         },
         front: front,
+    }
+}
+
+// Reads the peer's SACK, of exactly the chunk's bytes: the covered prefix is acknowledged and popped, then the blocks are acknowledged. In
+// this order: 13; stale; 14.
+pub fn sack(h: Head, cells: &mut [u64], packet: &[u8]) -> Sacking
+    ensures { λ r. ⌜ GoesOrStays toldSacked (sack (roomIn (now (cells .entry))) (now (packet .entry))) h (now (cells .entry)) (r .head) (now (cells .exit)) (r .answer) ⌝ }
+{
+    let k = sender_head::table_words(cells);
+    let n = cells.len();
+    let sacking = outbound_sack::handle_sack(h.queue, &mut cells[k..n], packet);
+    let queue = sacking.queue;
+    let answer = sacking.answer;
+    Sacking {
+        head: Head {
+            queue: queue,
+            streams: h.streams,
+        },
+        answer: answer,
     }
 }
 

@@ -1,6 +1,7 @@
 //! The plugin host's end: passes write trees, and what the archive says is done.
 
 use std::collections::{BTreeMap, BTreeSet, VecDeque};
+use std::iter::successors;
 
 use girdermoth::{Chunk, FLIGHT_ROOM, PayloadProtocolIdentifier, Refusal, ReliabilityType, RtoManager, Sender, Timer, TimerTable};
 
@@ -119,8 +120,6 @@ pub struct Host {
     rto: RtoManager,
     congestion: Congestion,
     pub first_tsn: u32,
-    /// The oldest TSN that is still in the flight.
-    oldest: u32,
     /// All bytes that were written: a chunk tells which of them it carries.
     store: Vec<u8>,
     pub messages: BTreeMap<u64, Message>,
@@ -148,7 +147,6 @@ impl Host {
             rto: RtoManager::new(100, 60, 400)?,
             congestion: Congestion { window: FIRST_WINDOW, threshold: RECEIVER_WINDOW, acknowledged: 0, halved_before: None },
             first_tsn,
-            oldest: first_tsn,
             store: Vec::new(),
             messages: BTreeMap::new(),
             events: Vec::new(),
@@ -168,8 +166,7 @@ impl Host {
 
     /// The TSNs in flight, oldest first.
     fn flight(&self) -> impl Iterator<Item = Chunk> + use<'_> {
-        let count = self.sender.next_tsn().wrapping_sub(self.oldest);
-        (0..count).filter_map(|at| self.sender.get(self.oldest.wrapping_add(at)))
+        successors(self.sender.oldest_tsn(), |tsn| Some(tsn.wrapping_add(1))).map_while(|tsn| self.sender.get(tsn))
     }
 
     fn release(&mut self, stream: u16, bytes: u64) -> Result<(), Refusal> {
@@ -273,7 +270,7 @@ impl Host {
     pub fn step(&mut self, now: u64, link: &mut Link) -> Result<(), Refusal> {
         self.sender.start_timed_messages(now)?;
         self.expire_inflight(now)?;
-        let fired = self.timers.next_timeout().is_some_and(|due| due <= now) && self.timers.is_expired(Timer::T3RTX, now)?.expired;
+        let fired = self.timers.is_expired(Timer::T3RTX, now)?.expired;
         if fired {
             self.timeouts += 1;
             self.congestion.timed_out(self.sender.next_tsn());
@@ -368,10 +365,9 @@ impl Host {
     /// An acknowledgement has come.
     pub fn take(&mut self, now: u64, packet: Packet) -> Result<(), Refusal> {
         let Packet::Sack { cumulative, beyond } = packet else { unreachable!("the editor only acknowledges") };
-        while self.sender.inflight_len() > 0 && cumulative.wrapping_sub(self.oldest) < 1 << 31 {
-            self.acknowledge(now, self.oldest)?;
-            self.sender.pop(self.oldest).expect("the oldest can be taken");
-            self.oldest = self.oldest.wrapping_add(1);
+        while let Some(oldest) = self.sender.oldest_tsn().filter(|oldest| cumulative.wrapping_sub(*oldest) < 1 << 31) {
+            self.acknowledge(now, oldest)?;
+            self.sender.pop(oldest).expect("the oldest can be taken");
         }
         for &tsn in &beyond {
             self.acknowledge(now, tsn)?;

@@ -1,24 +1,26 @@
--- `next_var` is right since its operations stand in the definition's order, and its distance is `gap`. Assumes nothing.
+-- `next_var` is right since `smoothed` weighs as the definition does, its distance is `gap`, and up to 2 ^ 53 the cast rounds nothing away. Assumes nothing.
 use borrow.Author.Needs.{needs}
-use mathlib.Core.Path.{ap, _∙_}
-use Prim.Native.Nat.{ℕ}
-use lib.Ieee.{Float, binary64, add, mul, div, ofBits, ofInt}
-use Rattle.rto.specs.Rto.{nextVar, f64}
+use native.Mathlib.Omega.{arith}
+use Prim.Native.Nat.{_^_}
+use lib.Dec.{le→leb}
+use lib.Ieee.{inFloat}
+use Rattle.rto.specs.Rto.{nextVar}
 use Rattle.rto.proofs.next_var.Statement.{statement}
 use Rattle.rto.proofs.next_var.Tie as tie
 
 gap-of-requires : tie.Need-gap-of-requires
 gap-of-requires c κs = search needs
 
-nearest-u64-to-f64-requires : tie.Need-nearest-u64-to-f64-requires
-nearest-u64-to-f64-requires c κs = search needs
+int-to-float-smoothed : tie.Need-int-to-float-smoothed
+unfolding inFloat
+int-to-float-smoothed c = le→leb (c .before .gap-of .result) (2 ^ 53) (omega arith)
+
+smoothed-requires : tie.Need-smoothed-requires
+smoothed-requires c κs = search needs
 
 returns : tie.Need-returns
-unfolding nextVar ofBits ofInt
-returns c =
-    let v = c .before .before .args .rttvar in
-    ap (λ (x : Float). div binary64 (add binary64 (mul binary64 (f64 6) v) (mul binary64 (f64 2) x)) (f64 8))
-    (c .nearest-u64-to-f64 .ensures ∙ ap (λ (d : ℕ). f64 d) (c .before .gap-of .ensures))
+unfolding nextVar
+returns c = cc
 
 pub next-var-spec : {M : Type 1} → statement M
-next-var-spec = tie.close (tie.spec gap-of-requires nearest-u64-to-f64-requires returns)
+next-var-spec = tie.close (tie.spec gap-of-requires int-to-float-smoothed smoothed-requires returns)

@@ -2,6 +2,7 @@
 use borrow.Author.Needs.{needs}
 use mathlib.Core.Path.{ap, _∙_}
 use Prim.Native.Nat.{ℕ, _+_}
+use Rattle.rto.specs.declared.Measured.the-variants.{Srtt}
 use Rattle.rto.specs.Rto.{renewed, clamp}
 use Rattle.rto.proofs.RtoManager.settle.Statement.{statement}
 use Rattle.rto.proofs.RtoManager.settle.Tie as tie
@@ -16,7 +17,8 @@ returns : tie.Need-returns
 returns c =
     let a = c .before .before .args in
     let t = a .self in
-    ap (renewed t (a .srtt) (a .rttvar)) (c .clamped .ensures ∙ ap (λ (q : ℕ). clamp (t .«rto_min») (t .«rto_max») (a .srtt + q)) (c .before .four-times .ensures))
+    ap (λ (x : ℕ). Srtt (a .srtt) (renewed t (a .srtt) (a .rttvar) x))
+    (c .clamped .ensures ∙ ap (λ (q : ℕ). clamp (t .«rto_min») (t .«rto_max») (a .srtt + q)) (c .before .four-times .ensures))
 
 pub settle-spec : {M : Type 1} → statement M
 settle-spec = tie.close (tie.spec four-times-requires clamped-requires returns)
