@@ -338,6 +338,6 @@ def gen(name, kinds):
 
 if __name__ == '__main__':
     print(open(sys.path[0] + '/OnHead.head').read())
-    for name, kinds in [('0', ''), ('1', 'x'), ('2', 'xx'), ('3', 'xxx'), ('4', 'xxxx'), ('5', 'xxxxx'), ('m1', 'mx')]:
+    for name, kinds in [('0', ''), ('1', 'x'), ('2', 'xx'), ('3', 'xxx'), ('4', 'xxxx'), ('5', 'xxxxx'), ('m1', 'mx'), ('s0', 's')]:
         if len(sys.argv) > 1 and name not in sys.argv[1:]: continue
         print(gen(name, kinds))

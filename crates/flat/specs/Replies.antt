@@ -1,9 +1,11 @@
 -- What is told of each answer (`Told` of the model), flat: the number, and the values by their places. What a case does not have is 0.
-use mathlib.Core.Bool.{Bool, false}
+use mathlib.Core.Bool.{Bool, false, not, _&&_}
 use Prim.Native.Nat.{ℕ}
 use lib.ListN.{drop}
+use lib.Dec.{eqb}
 pub use Rattle.limits.specs.Moments.{present, timeOf}
 use Rattle.limits.specs.declared.Moment.{Moment}
+use Rattle.limits.specs.Refusals.{done}
 use Rattle.limits.specs.Told.{Told, tells, refusing, tellsFlag, tellsNumber, tellsMoment, valueAt, flagAt, given}
 use Rattle.model.specs.declared.Chunk.{Chunk}
 use Rattle.model.specs.declared.Done.{Done}
@@ -18,12 +20,14 @@ use Rattle.model.specs.declared.Listed.{Listed}
 use Rattle.model.specs.declared.Earliest.{Earliest}
 use Rattle.model.specs.declared.Amount.{Amount}
 use Rattle.model.specs.declared.Counted.{Counted}
+use Rattle.model.specs.declared.Sacked as Model
 use Rattle.model.specs.Lists.{if_then_else_}
-use Rattle.model.specs.Told.{chunkValues, toldDone, toldWritten, toldReleased, toldListed, toldEarliest, toldAmount, toldCounted, toldSent, toldFound, toldExpired, toldTail, toldAbandoned}
+use Rattle.model.specs.Told.{chunkValues, toldDone, toldWritten, toldReleased, toldListed, toldEarliest, toldAmount, toldCounted, toldSent, toldFound, toldExpired, toldTail, toldAbandoned, toldSacked}
 use Rattle.flat.specs.declared.Reply.{Reply}
 use Rattle.flat.specs.declared.Freed.{Freed}
 use Rattle.flat.specs.declared.Fragment.{Fragment}
 use Rattle.flat.specs.declared.Counts.{Counts}
+use Rattle.flat.specs.declared.Sacked.{Sacked}
 
 -- ---- 01's number in a reply: the only thing in a refusal
 
@@ -35,6 +39,9 @@ refusalOfFreed y = y .refusal
 
 abbrev pub refusalOfFragment : Fragment → ℕ
 refusalOfFragment y = y .refusal
+
+abbrev pub refusalOfSacked : Sacked → ℕ
+refusalOfSacked y = y .refusal
 
 -- ---- numbers, yes and no
 
@@ -159,3 +166,16 @@ abandonedIn t = record { «message_id» = 0; bytes = valueAt 1 t; stream = value
 
 abbrev pub flatAbandoned : Abandoned → Freed
 flatAbandoned a = abandonedIn (toldAbandoned a)
+
+-- ---- what a SACK released
+
+-- the bytes; with none told and no refusal it was stale
+abbrev pub sackedIn : Told → Sacked
+sackedIn t = record { bytes = valueAt 0 t; low = 0; refusal = t .number; stale = not (given t) && eqb (t .number) done }
+
+-- with nothing but 01's number
+abbrev pub noneSacked : ℕ → Sacked
+noneSacked n = sackedIn (refusing n)
+
+abbrev pub flatSacked : Model.Sacked → Sacked
+flatSacked a = sackedIn (toldSacked a)

@@ -57,6 +57,16 @@ pub struct Counts {
     pub refusal: u8,
 }
 
+// What a SACK released, or that it is stale.
+// `low` is 0: its place is kept for how many streams fall to their low threshold, so that the struct stays when these are counted.
+#[repr(C)]
+pub struct Sacked {
+    pub bytes: u64,
+    pub low: u64,
+    pub refusal: u8,
+    pub stale: bool,
+}
+
 // The head after a call beside its reply.
 pub struct Said {
     pub head: Head,
@@ -71,4 +81,9 @@ pub struct SaidFreed {
 pub struct SaidFragment {
     pub head: Head,
     pub reply: Fragment,
+}
+
+pub struct SaidSacked {
+    pub head: Head,
+    pub reply: Sacked,
 }

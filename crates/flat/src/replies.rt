@@ -3,6 +3,7 @@ use super::Counts;
 use super::Fragment;
 use super::Freed;
 use super::Reply;
+use super::Sacked;
 use limits::Moment;
 use model::Abandoned;
 use model::Amount;
@@ -18,7 +19,7 @@ use model::TailExpired;
 use model::Written;
 ghost use mathlib.Core.Path.{_≡_};
 ghost use Rattle.flat.specs.Replies.{present, timeOf, onlyNumber, yesOrNo, numberIs, flatDone, flatWritten, flatReleased, flatListed, flatEarliest, flatMoment, flatAmount};
-ghost use Rattle.flat.specs.Replies.{flatCounted, fragmentOf, noFragment, flatSent, flatFound, noneFreed, flatExpired, flatTail, flatAbandoned};
+ghost use Rattle.flat.specs.Replies.{flatCounted, fragmentOf, noFragment, flatSent, flatFound, noneFreed, flatExpired, flatTail, flatAbandoned, noneSacked, flatSacked};
 
 // ---- numbers, yes and no
 
@@ -309,5 +310,33 @@ pub fn abandoned(a: Abandoned) -> Freed
             unordered: false,
         },
         Abandoned::Nothing => none_freed(0),
+    }
+}
+
+// ---- what a SACK released
+
+fn none_sacked(number: u8) -> Sacked
+    ensures { λ r. ⌜ r ≡ noneSacked number ⌝ }
+{
+    Sacked {
+        bytes: 0,
+        low: 0,
+        refusal: number,
+        stale: number == 0,
+    }
+}
+
+pub fn sacked(a: model::Sacked) -> Sacked
+    ensures { λ r. ⌜ r ≡ flatSacked a ⌝ }
+{
+    match a {
+        model::Sacked::Released(bytes) => Sacked {
+            bytes: bytes,
+            low: 0,
+            refusal: 0,
+            stale: false,
+        },
+        model::Sacked::Stale => none_sacked(0),
+        model::Sacked::Refused(n) => none_sacked(n),
     }
 }

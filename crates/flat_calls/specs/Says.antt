@@ -10,7 +10,8 @@ use Rattle.flat.specs.declared.Reply.{Reply}
 use Rattle.flat.specs.declared.Freed.{Freed}
 use Rattle.flat.specs.declared.Fragment.{Fragment}
 use Rattle.flat.specs.declared.Counts.{Counts}
-use Rattle.flat.specs.Replies.{flatAbandoned, flatAmount, flatCounted, flatDone, flatEarliest, flatExpired, flatFound, flatMoment, flatReleased, flatSent, flatTail, flatWritten, numberIs, onlyNumber, refusalOfFragment, refusalOfFreed, refusalOfReply, yesOrNo}
+use Rattle.flat.specs.declared.Sacked.{Sacked}
+use Rattle.flat.specs.Replies.{flatAbandoned, flatAmount, flatCounted, flatDone, flatEarliest, flatExpired, flatFound, flatMoment, flatReleased, flatSacked, flatSent, flatTail, flatWritten, numberIs, onlyNumber, refusalOfFragment, refusalOfFreed, refusalOfReply, refusalOfSacked, yesOrNo}
 use Rattle.flat.specs.Calls.{Makes, Goes, Leans, GoesOrStays, LeansOrStays, doing, Asks, Sums}
 use Rattle.flat_calls.specs.Listing.{Lists}
 use mathlib.Core.List.{_++_}
@@ -21,6 +22,7 @@ use Rattle.model.specs.Streams.{openStream, setReliability, setLow, setHigh, re
 use Rattle.model.specs.Messages.{write}
 use Rattle.model.specs.Rings.{startLifetimes, send, expirePending, expirePendingTail, abandon, expiredInflight, head, bytes}
 use Rattle.model.specs.Flight.{acknowledge, pop, markAll, found, isAbandoned, earliestOutstanding, hasStream}
+use Rattle.model.specs.Sacks.{sack}
 use Rattle.sender_asks.specs.Beside.{oldestTsn, ringLeft, nextDeadline}
 use Rattle.outbound_send.specs.Lean.{leanStart, leanSend}
 use Rattle.outbound_abandon.specs.Lean.{leanAbandon}
@@ -88,6 +90,10 @@ MarkAsAcked tsn = Goes numberIs (acknowledge tsn)
 -- Takes the oldest entry, if it has this TSN.
 abbrev pub Pop : (tsn : ℕ) → Head → List ℕ → Head → List ℕ → Fragment → Type 0
 Pop tsn = Goes (flatFound tsn) (pop tsn)
+
+-- Reads the peer's SACK, of exactly the chunk's bytes: the covered prefix is acknowledged and popped, then the blocks are acknowledged; a stale one changes nothing. Refusals: 13; 14 where it is not stale.
+abbrev pub HandleSack : Room → (chunk : List ℕ) → Head → List ℕ → Head → List ℕ → Sacked → Type 0
+HandleSack room chunk = GoesOrStays refusalOfSacked flatSacked (sack room chunk)
 
 -- Every entry that is neither acknowledged nor abandoned is to be retransmitted.
 abbrev pub MarkAllToRetransmit : Head → List ℕ → Head → List ℕ → Reply → Type 0

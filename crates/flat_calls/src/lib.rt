@@ -6,11 +6,12 @@ use flat::Reply;
 use flat::Said;
 use flat::SaidFragment;
 use flat::SaidFreed;
+use flat::SaidSacked;
 use sender_head::Head;
 ghost use Rattle.sender_head.specs.Whole.{roomIn};
 ghost use Rattle.flat_calls.specs.Says.{Init, OpenStream, SetReliabilityParams, SetBufferedAmountLowThreshold, SetBufferedAmountHighThreshold, OnBufferReleased, Write, StartTimedMessages, SendNext, ExpirePending, ExpirePendingTail, Abandon};
-ghost use Rattle.flat_calls.specs.Says.{MarkAsAcked, Pop, MarkAllToRetransmit, ExpiredInflight, Get, IsAbandoned, PeekPending, NextMessageId, NextTsn, PendingLen, PendingBytes, InflightLen};
-ghost use Rattle.flat_calls.specs.Says.{InflightBytes, EarliestOutstandingTsn, PendingContainsStream, ContainsStream, BufferedAmount, BufferedAmountLowThreshold, BufferedAmountHighThreshold, Stats, OldestTsn, RingRoom, NextDeadline};
+ghost use Rattle.flat_calls.specs.Says.{MarkAsAcked, Pop, HandleSack, MarkAllToRetransmit, ExpiredInflight, Get, IsAbandoned, PeekPending, NextMessageId, NextTsn, PendingLen, PendingBytes};
+ghost use Rattle.flat_calls.specs.Says.{InflightLen, InflightBytes, EarliestOutstandingTsn, PendingContainsStream, ContainsStream, BufferedAmount, BufferedAmountLowThreshold, BufferedAmountHighThreshold, Stats, OldestTsn, RingRoom, NextDeadline};
 
 // A fresh sender, whatever the bytes were: the first chunk takes the TSN `tsn`, the first message the number `number`. The cells stay.
 pub fn init(head: Head, cells: &mut [u64], tsn: u32, number: u64) -> Said
@@ -226,6 +227,21 @@ pub fn pop(head: Head, cells: &mut [u64], tsn: u32) -> SaidFragment
     let reply = flat::replies::found(tsn, answer);
     let rest = after.head;
     SaidFragment {
+        head: rest,
+        reply: reply,
+    }
+}
+
+// Reads the peer's SACK, of exactly the chunk's bytes: the covered prefix is acknowledged and popped, then the blocks are acknowledged; a stale one changes nothing. Refusals: 13; 14 where it is not stale.
+pub fn handle_sack(head: Head, cells: &mut [u64], chunk: &[u8]) -> SaidSacked
+    ensures { λ r. ⌜ HandleSack (roomIn (now (cells .entry))) (now (chunk .entry)) head (now (cells .entry)) (r .head) (now (cells .exit)) (r .reply) ⌝ }
+{
+    let own = sender_head::by_numbers(head);
+    let after = sender_calls::flight::sack(own, cells, chunk);
+    let answer = after.answer;
+    let reply = flat::replies::sacked(answer);
+    let rest = after.head;
+    SaidSacked {
         head: rest,
         reply: reply,
     }

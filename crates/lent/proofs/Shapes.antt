@@ -30,12 +30,16 @@ use Rattle.flat.proofs.Fragment as Nc
 use Rattle.flat.proofs.Fragment.Laws as Nc′
 use Rattle.flat.proofs.Counts as Nn
 use Rattle.flat.proofs.Counts.Laws as Nn′
+use Rattle.flat.proofs.Sacked as Ns
+use Rattle.flat.proofs.Sacked.Laws as Ns′
 use Rattle.flat.proofs.Said as S
 use Rattle.flat.proofs.Said.Laws as S′
 use Rattle.flat.proofs.SaidFreed as Sf
 use Rattle.flat.proofs.SaidFreed.Laws as Sf′
 use Rattle.flat.proofs.SaidFragment as Sc
 use Rattle.flat.proofs.SaidFragment.Laws as Sc′
+use Rattle.flat.proofs.SaidSacked as Ss
+use Rattle.flat.proofs.SaidSacked.Laws as Ss′
 use Rattle.lent.proofs.Sender as R
 use Rattle.lent.proofs.Sender.Laws as R′
 
@@ -67,6 +71,9 @@ module _ {M : Type 1} (𝓤 : URA M) (H : Heap 𝓤) (A : Atoms 𝓤) (W : Given
 
   abbrev pub counts : Data 𝓤 H A W Nn.the-row
   counts = of-struct 𝓤 H A W Nn.the-type Nn′.the-laws Nn′.the-plain (λ y. tt) (λ y f. refl)
+
+  abbrev pub sacked : Data 𝓤 H A W Ns.the-row
+  sacked = of-struct 𝓤 H A W Ns.the-type Ns′.the-laws Ns′.the-plain (λ y. tt) (λ y f. refl)
 
   pub head-put : (h : Sender) (g : Head) (b o : ℕ) → Reach 𝓤 H A W R.the-row D.the-row h (with-head h g) (h .head) g b o (o + 0)
   head-put h g b o = whole-record 𝓤 H A W D.the-type (field-of 𝓤 H A W R.the-type R′.the-laws 0 0 refl refl h (with-head h g) (R.struct .as-values h) g refl refl b o)
@@ -110,7 +117,7 @@ module _ {M : Type 1} (𝓤 : URA M) (H : Heap 𝓤) (A : Atoms 𝓤) (W : Given
     sees-cells = cells-seen;
   }
 
-  -- each of the three is a struct of a head and a reply
+  -- each of the four is a struct of a head and a reply
   abbrev pub said : Two 𝓤 H A W D.the-row N.the-row S.the-row head reply
   said = of-two 𝓤 H A W S.the-type S′.the-laws head reply past refl refl refl (λ r. r .head) (λ r. r .reply) (λ g y. record { head = g; reply = y }) (λ r. refl) (λ r. refl) (λ r p. (p .0, p .1 .0))
 
@@ -119,3 +126,6 @@ module _ {M : Type 1} (𝓤 : URA M) (H : Heap 𝓤) (A : Atoms 𝓤) (W : Given
 
   abbrev pub said-fragment : Two 𝓤 H A W D.the-row Nc.the-row Sc.the-row head fragment
   said-fragment = of-two 𝓤 H A W Sc.the-type Sc′.the-laws head fragment past refl refl refl (λ r. r .head) (λ r. r .reply) (λ g y. record { head = g; reply = y }) (λ r. refl) (λ r. refl) (λ r p. (p .0, p .1 .0))
+
+  abbrev pub said-sacked : Two 𝓤 H A W D.the-row Ns.the-row Ss.the-row head sacked
+  said-sacked = of-two 𝓤 H A W Ss.the-type Ss′.the-laws head sacked past refl refl refl (λ r. r .head) (λ r. r .reply) (λ g y. record { head = g; reply = y }) (λ r. refl) (λ r. refl) (λ r p. (p .0, p .1 .0))

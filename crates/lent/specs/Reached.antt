@@ -1,4 +1,4 @@
--- The lent sender behind any calls.
+-- The lent sender behind any calls and SACKs.
 use mathlib.Core.Path.{_≡_}
 use mathlib.Core.Bool.{true}
 use mathlib.Core.Option.{some}
@@ -10,7 +10,7 @@ use Rattle.model.specs.declared.Chunk.{Chunk}
 use Rattle.model.specs.State as State
 use Rattle.model.specs.State.{nextTsn}
 use Rattle.model.specs.Rings.{head}
-use Rattle.model.specs.Calls.{Call}
+use Rattle.model.specs.Requests.{Request}
 use Rattle.demands.specs.Words.{SomePending}
 use Rattle.demands.specs.Demand3.{sentBy}
 use Rattle.sender_head.specs.Whole.{senderOf, Counted}
@@ -30,19 +30,19 @@ stateOf s = senderOf (s .head) (s .cells)
 abbrev pub Sums : Sender → Type 0
 Sums s = Counted (s .head) (s .cells)
 
--- `girdermoth_init` made a sender of these numbers from any bytes, and these calls led from it to s
-abbrev pub Reached : (tsn number : ℕ) → List Call → Sender → Type 0
-Reached tsn number ks s = (bytes : Sender) × (made : Sender) × (y : Reply) × Init tsn number bytes made y × Run Called ks made s
+-- `girdermoth_init` made a sender of these numbers from any bytes, and these requests led from it to s
+abbrev pub Reached : (tsn number : ℕ) → List Request → Sender → Type 0
+Reached tsn number rs s = (bytes : Sender) × (made : Sender) × (y : Reply) × Init tsn number bytes made y × Run Called rs made s
 
--- behind any calls of the lent sender its state is the model's, and so demand 3 holds of it
+-- behind any calls and SACKs of the lent sender its state is the model's, and so demand 3 holds of it
 abbrev pub LentRuns : Type 0
-LentRuns = (tsn number : ℕ) → tsn < tsns → (ks : List Call) (s : Sender) → Reached tsn number ks s → AsModel tsn number ks (stateOf s) (Sums s)
+LentRuns = (tsn number : ℕ) → tsn < tsns → (rs : List Request) (s : Sender) → Reached tsn number rs s → AsModel tsn number rs (stateOf s) (Sums s)
 
--- demand 3's first sentence: behind any calls, a send with its clock at most 2 ^ 40, something pending and fewer than 255 entries in flight
--- answers that there is a chunk, with the next TSN, and it is the one at the head
+-- demand 3's first sentence: behind any calls and SACKs, a send with its clock at most 2 ^ 40, something pending and fewer than 255 entries in
+-- flight answers that there is a chunk, with the next TSN, and it is the one at the head
 abbrev pub YieldsBelow255 : Type 0
 YieldsBelow255 =
-    (tsn number : ℕ) → tsn < tsns → (ks : List Call) (s s′ : Sender) → Reached tsn number ks s
+    (tsn number : ℕ) → tsn < tsns → (rs : List Request) (s s′ : Sender) → Reached tsn number rs s
     → (clock : ℕ) → clock ≤ clockMax → SomePending (stateOf s) → length (stateOf s .flight .entries) < 255
     → (y : Fragment) → SendNext clock s s′ y
     → (y .some ≡ true) × (y .tsn ≡ nextTsn (stateOf s))

@@ -9,6 +9,7 @@ use Rattle.flat.specs.declared.Reply.{Reply}
 use Rattle.flat.specs.declared.Freed.{Freed}
 use Rattle.flat.specs.declared.Fragment.{Fragment}
 use Rattle.flat.specs.declared.Counts.{Counts}
+use Rattle.flat.specs.declared.Sacked.{Sacked}
 use Rattle.flat_calls.specs.Says as Flat
 use Rattle.lent.specs.declared.Sender.{Sender}
 
@@ -73,6 +74,10 @@ MarkAsAcked tsn s s′ y = Flat.MarkAsAcked tsn (s .head) (s .cells) (s′ .head
 -- Takes the oldest entry, if it has this TSN.
 abbrev pub Pop : (tsn : ℕ) → Sender → Sender → Fragment → Type 0
 Pop tsn s s′ y = Flat.Pop tsn (s .head) (s .cells) (s′ .head) (s′ .cells) y
+
+-- Reads the peer's SACK, of exactly the chunk's bytes: the covered prefix is acknowledged and popped, then the blocks are acknowledged; a stale one changes nothing. Refusals: 13; 14 where it is not stale.
+abbrev pub HandleSack : (chunk : List ℕ) → Sender → Sender → Sacked → Type 0
+HandleSack chunk s s′ y = Flat.HandleSack room01 chunk (s .head) (s .cells) (s′ .head) (s′ .cells) y
 
 -- Every entry that is neither acknowledged nor abandoned is to be retransmitted.
 abbrev pub MarkAllToRetransmit : Sender → Sender → Reply → Type 0

@@ -5,10 +5,11 @@ use flat::Counts;
 use flat::Fragment;
 use flat::Freed;
 use flat::Reply;
+use flat::Sacked;
 use sender_head::Head;
 ghost use Rattle.lent.specs.Says.{Init, OpenStream, SetReliabilityParams, SetBufferedAmountLowThreshold, SetBufferedAmountHighThreshold, OnBufferReleased, Write, StartTimedMessages, SendNext, ExpirePending, ExpirePendingTail, Abandon};
-ghost use Rattle.lent.specs.Says.{MarkAsAcked, Pop, MarkAllToRetransmit, ExpiredInflight, Get, IsAbandoned, PeekPending, NextMessageId, NextTsn, PendingLen, PendingBytes, InflightLen};
-ghost use Rattle.lent.specs.Says.{InflightBytes, EarliestOutstandingTsn, PendingContainsStream, ContainsStream, BufferedAmount, BufferedAmountLowThreshold, BufferedAmountHighThreshold, Stats, OldestTsn, RingRoom, NextDeadline};
+ghost use Rattle.lent.specs.Says.{MarkAsAcked, Pop, HandleSack, MarkAllToRetransmit, ExpiredInflight, Get, IsAbandoned, PeekPending, NextMessageId, NextTsn, PendingLen, PendingBytes};
+ghost use Rattle.lent.specs.Says.{InflightLen, InflightBytes, EarliestOutstandingTsn, PendingContainsStream, ContainsStream, BufferedAmount, BufferedAmountLowThreshold, BufferedAmountHighThreshold, Stats, OldestTsn, RingRoom, NextDeadline};
 
 // 64 streams, and 256 slots in each ring and in the flight.
 #[repr(C)]
@@ -190,6 +191,16 @@ pub extern "C" fn girdermoth_pop(s: &mut Sender, tsn: u32) -> Fragment
     ensures { λ r. ⌜ Pop tsn (now (s .entry)) (now (s .exit)) r ⌝ }
 {
     let r = flat_calls::pop(s.head, &mut s.cells, tsn);
+    s.head = r.head;
+    r.reply
+}
+
+// Reads the peer's SACK, of exactly the chunk's bytes: the covered prefix is acknowledged and popped, then the blocks are acknowledged; a stale one changes nothing. Refusals: 13; 14 where it is not stale.
+#[no_mangle]
+pub extern "C" fn girdermoth_handle_sack(s: &mut Sender, chunk: &[u8]) -> Sacked
+    ensures { λ r. ⌜ HandleSack (now (chunk .entry)) (now (s .entry)) (now (s .exit)) r ⌝ }
+{
+    let r = flat_calls::handle_sack(s.head, &mut s.cells, chunk);
     s.head = r.head;
     r.reply
 }

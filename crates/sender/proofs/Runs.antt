@@ -1,14 +1,13 @@
--- By induction on the calls: before each of them the state is one that the model reaches, so `Good`.
+-- By induction on the requests: before each of them the state is one that the model reaches, so `Good`.
 use mathlib.Core.Path.{_≡_, sym, ap, subst, _∙_}
 use mathlib.Core.List.{List, [], _∷_}
 use Prim.Native.Nat.{ℕ, _<_}
 use native.Mathlib.Omega.{arith}
 use Rattle.limits.specs.Limits.{Room, room01, tsns}
 use Rattle.model.specs.State.{Sender, Out, fresh, same}
-use Rattle.model.specs.Calls.{Call, step, run}
+use Rattle.model.specs.Requests.{Request, serve, served}
 use Rattle.demands.specs.Demand3.{Demand3}
-use Rattle.demands.proofs.Demand3.{from-fresh}
-use Rattle.demands.proofs.States.{every-state}
+use Rattle.demands.proofs.Requests.{requests-from-fresh, every-state-served}
 use Rattle.outbound_queue.specs.Outbound.{Good, Does, kept-good}
 use Rattle.sender.specs.Runs.{Run, Follows, AsModel}
 
@@ -28,24 +27,24 @@ module _ {S : Type 0} (state : S → Sender) (Sums : S → Type 0) where
   pub stayed : {G : Type 0} {s s′ : S} → s′ ≡ s → (G → state s′ ≡ state s) × (Sums s → Sums s′)
   stayed e = (λ _. ap state e, subst Sums (sym e))
 
-  -- ---- any calls
+  -- ---- any calls and SACKs
 
-  module _ {Called : Call → S → S → Type 0} (each : (k : Call) (s s′ : S) → Called k s s′ → Follows state Sums k s s′) where
-    all-follow : (ks : List Call) (s t : S) (o : Sender) → state s ≡ o → ((js : List Call) → Good room01 (run room01 js o)) → Sums s → Run Called ks s t → (state t ≡ run room01 ks o) × Sums t
-    all-follow [] s t o e good sums r = (ap state r ∙ e, subst Sums (sym r) sums)
-    all-follow (k ∷ ks) s t o e good sums r =
-        let f = each k s (r .0) (r .1) in
-        let g = f .0 (subst (Good room01) (sym e) (good [])) ∙ ap (λ (x : Sender). step room01 k x .after) e in
-        all-follow ks (r .0) t (step room01 k o .after) g (λ js. good (k ∷ js)) (f .1 sums) (r .2)
+  module _ {Called : Request → S → S → Type 0} (each : (r : Request) (s s′ : S) → Called r s s′ → Follows state Sums r s s′) where
+    all-follow : (rs : List Request) (s t : S) (o : Sender) → state s ≡ o → ((qs : List Request) → Good room01 (served room01 qs o)) → Sums s → Run Called rs s t → (state t ≡ served room01 rs o) × Sums t
+    all-follow [] s t o e good sums d = (ap state d ∙ e, subst Sums (sym d) sums)
+    all-follow (r ∷ rs) s t o e good sums d =
+        let f = each r s (d .0) (d .1) in
+        let g = f .0 (subst (Good room01) (sym e) (good [])) ∙ ap (λ (x : Sender). serve room01 r x .after) e in
+        all-follow rs (d .0) t (serve room01 r o .after) g (λ qs. good (r ∷ qs)) (f .1 sums) (d .2)
 
     -- from a fresh sender
-    pub as-model : (tsn number : ℕ) → tsn < tsns → (ks : List Call) (s t : S) → state s ≡ fresh tsn number → Sums s → Run Called ks s t → AsModel tsn number ks (state t) (Sums t)
-    as-model tsn number h ks s t e sums r =
-        let good : (js : List Call) → Good room01 (run room01 js (fresh tsn number)) = λ js. kept-good (every-state room01 tsn number js) in
-        let f = all-follow ks s t (fresh tsn number) e good sums r in
+    pub as-model : (tsn number : ℕ) → tsn < tsns → (rs : List Request) (s t : S) → state s ≡ fresh tsn number → Sums s → Run Called rs s t → AsModel tsn number rs (state t) (Sums t)
+    as-model tsn number h rs s t e sums d =
+        let good : (qs : List Request) → Good room01 (served room01 qs (fresh tsn number)) = λ qs. kept-good (every-state-served room01 tsn number qs) in
+        let f = all-follow rs s t (fresh tsn number) e good sums d in
         record {
           state = f .0;
           sums = f .1;
-          good = subst (Good room01) (sym (f .0)) (good ks);
-          demand3 = subst (Demand3 room01) (sym (f .0)) (from-fresh room01 (omega arith) tsn number h ks);
+          good = subst (Good room01) (sym (f .0)) (good rs);
+          demand3 = subst (Demand3 room01) (sym (f .0)) (requests-from-fresh room01 (omega arith) tsn number h rs);
         }

@@ -2,12 +2,14 @@
 use super::Sender;
 use model::Found;
 use model::Listed;
+use model::Sacked;
 use sender_head::Head;
 ghost use mathlib.Core.Path.{_≡_};
 ghost use Rattle.limits.specs.Limits.{room01};
 ghost use Rattle.model.specs.Flight.{acknowledge, pop, markAll};
-ghost use Rattle.model.specs.Told.{toldFound, tellsNumber};
-ghost use Rattle.sender.specs.Value.{stateOf, Sums, Goes};
+ghost use Rattle.model.specs.Sacks.{sack};
+ghost use Rattle.model.specs.Told.{toldFound, toldSacked, tellsNumber};
+ghost use Rattle.sender.specs.Value.{stateOf, Sums, Goes, GoesOrStays};
 ghost use Rattle.outbound_abandon.specs.LeanListing.{Lists};
 ghost use Rattle.sender_head.specs.Whole.{roomIn, senderOf, Counted};
 
@@ -20,6 +22,11 @@ pub struct Acked {
 pub struct Popped {
     pub sender: Sender,
     pub front: Found,
+}
+
+pub struct Sacking {
+    pub sender: Sender,
+    pub answer: Sacked,
 }
 
 // The entry of a TSN is acknowledged, and holds nothing from then on.
@@ -52,6 +59,24 @@ pub fn pop(s: Sender, tsn: u32) -> Popped
             cells: cells,
         },
         front: front,
+    }
+}
+
+// Reads the peer's SACK, of exactly the chunk's bytes: the covered prefix is acknowledged and popped, then the blocks are acknowledged. In
+// this order: 13; stale; 14.
+pub fn handle_sack(s: Sender, packet: &[u8]) -> Sacking
+    ensures { λ r. ⌜ GoesOrStays toldSacked (sack room01 (now (packet .entry))) s (r .sender) (r .answer) ⌝ }
+{
+    let mut cells = s.cells;
+    let sacking = sender_calls::flight::sack(s.head, &mut cells, packet);
+    let head = sacking.head;
+    let answer = sacking.answer;
+    Sacking {
+        sender: Sender {
+            head: head,
+            cells: cells,
+        },
+        answer: answer,
     }
 }
 
