@@ -92,16 +92,16 @@ static void sack(const packet *p) {   // what it acknowledged is told by the fli
     static girdermoth_fragment was[ROOM];
     uint32_t first = oldest(), entries = (uint32_t)girdermoth_inflight_len(&s).value, newest = first;
     for (uint32_t i = 0; i < entries; i++) was[i] = girdermoth_get(&s, first + i);
-    girdermoth_sacked told = girdermoth_handle_sack(&s, p->sack, p->length);
+    girdermoth_sacked answer = girdermoth_handle_sack(&s, p->sack, p->length);
     for (uint32_t t = first; t != first + entries; t++) {
         girdermoth_fragment before = was[t - first], c = girdermoth_get(&s, t);
         if (before.acked || (c.some && !c.acked)) continue;
-        newest = t; told.bytes -= before.length;
+        newest = t; answer.bytes -= before.length;
         girdermoth_on_buffer_released(&s, before.stream, before.length);
         girdermoth_timer_stop(&timers, GIRDERMOTH_T3_RTX);
         if (before.has_since && kept[t % ROOM].sent == 1) girdermoth_rto_set_new_rtt(&rto, now - before.since);
     }
-    want(told.refusal == GIRDERMOTH_DONE && told.bytes == 0, "a SACK was refused, or released other bytes than it acknowledged");
+    want(answer.refusal == GIRDERMOTH_DONE && answer.bytes == 0, "a SACK was refused, or released other bytes than it acknowledged");
     for (uint32_t t = oldest(); after(newest, t); t++) kept[t % ROOM].again |= ++kept[t % ROOM].missing == 3;
 }
 

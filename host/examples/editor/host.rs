@@ -340,16 +340,14 @@ impl Host {
         link.send(now, Packet::Forward { tsn: last.tsn, streams: streams.into_iter().collect() });
     }
 
-    fn acknowledge(&mut self, now: u64, tsn: u32) -> Result<(), Refusal> {
-        let Some(chunk) = self.sender.get(tsn).filter(|chunk| !chunk.acked) else { return Ok(()) };
-        let bytes = self.sender.mark_as_acked(tsn);
-        assert_eq!(bytes, u64::from(chunk.length));
+    /// An entry, as it was, is newly acknowledged.
+    fn acknowledged(&mut self, now: u64, chunk: &Chunk) -> Result<(), Refusal> {
         if chunk.abandoned {
             return Ok(());
         }
-        self.release(chunk.stream_identifier, bytes)?;
-        self.mark(now, &chunk, Mark::Acknowledged, false);
-        if !self.twice.contains(&tsn) {
+        self.release(chunk.stream_identifier, chunk.length.into())?;
+        self.mark(now, chunk, Mark::Acknowledged, false);
+        if !self.twice.contains(&chunk.tsn) {
             self.rto.set_new_rtt(now - chunk.since.expect("it was sent"))?;
         }
         self.timers.stop(Timer::T3RTX);
@@ -364,18 +362,19 @@ impl Host {
 
     /// An acknowledgement has come.
     pub fn take(&mut self, now: u64, packet: Packet) -> Result<(), Refusal> {
-        let Packet::Sack { cumulative, beyond } = packet else { unreachable!("the editor only acknowledges") };
-        while let Some(oldest) = self.sender.oldest_tsn().filter(|oldest| cumulative.wrapping_sub(*oldest) < 1 << 31) {
-            self.acknowledge(now, oldest)?;
-            self.sender.pop(oldest).expect("the oldest can be taken");
+        let Packet::Sack { chunk } = packet else { unreachable!("the editor only acknowledges") };
+        let mut fresh: Vec<Chunk> = self.flight().filter(|entry| !entry.acked).collect();
+        let Some(sacked) = self.sender.handle_sack(&chunk)? else { return Ok(()) };
+        fresh.retain(|entry| self.sender.get(entry.tsn).is_none_or(|left| left.acked));
+        assert_eq!(fresh.iter().map(|entry| u64::from(entry.length)).sum::<u64>(), sacked.bytes, "what it released is what they held");
+        for entry in &fresh {
+            self.acknowledged(now, entry)?;
         }
-        for &tsn in &beyond {
-            self.acknowledge(now, tsn)?;
-        }
-        // Three reports that a later one has come, and it is sent again.
-        let Some(&newest) = beyond.last() else { return Ok(()) };
+        // Three reports that a later one has newly come, and it is sent again.
+        let Some(newest) = fresh.last() else { return Ok(()) };
+        let before = |tsn: u32| newest.tsn.wrapping_sub(tsn).wrapping_sub(1) < 1 << 31;
         let passed: Vec<u32> =
-            self.flight().take_while(|chunk| chunk.tsn != newest).filter(|chunk| !chunk.acked && !chunk.abandoned).map(|chunk| chunk.tsn).collect();
+            self.flight().take_while(|entry| before(entry.tsn)).filter(|entry| !entry.acked && !entry.abandoned).map(|entry| entry.tsn).collect();
         for tsn in passed {
             let count = self.missing.entry(tsn).or_insert(0);
             *count += 1;

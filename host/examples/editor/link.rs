@@ -19,10 +19,9 @@ pub enum Packet {
         tsn: u32,
         streams: Vec<(u16, u16)>,
     },
-    /// All up to `cumulative` has come, and these beyond it.
+    /// The bytes of a SACK chunk, as RFC 9260 has it.
     Sack {
-        cumulative: u32,
-        beyond: Vec<u32>,
+        chunk: Vec<u8>,
     },
 }
 

@@ -92,7 +92,24 @@ impl Receiver {
             }
             Packet::Sack { .. } => unreachable!("the host sends no acknowledgement"),
         }
-        Packet::Sack { cumulative: self.cumulative(), beyond: self.beyond.iter().map(|at| self.first_tsn.wrapping_add(*at)).collect() }
+        Packet::Sack { chunk: self.sack() }
+    }
+
+    /// Type 3, the cumulative TSN, a window that is always open, and a block for each run of what has come beyond it.
+    fn sack(&self) -> Vec<u8> {
+        let mut blocks: Vec<[u16; 2]> = Vec::new();
+        for offset in self.beyond.iter().map(|at| (at + 1 - self.next) as u16) {
+            match blocks.last_mut() {
+                Some([_, end]) if *end + 1 == offset => *end = offset,
+                _ => blocks.push([offset; 2]),
+            }
+        }
+        let mut chunk = [[3, 0], (16 + 4 * blocks.len() as u16).to_be_bytes()].concat();
+        chunk.extend(self.cumulative().to_be_bytes());
+        chunk.extend(u32::MAX.to_be_bytes());
+        chunk.extend([blocks.len() as u16, 0].map(u16::to_be_bytes).concat());
+        chunk.extend(blocks.concat().into_iter().flat_map(u16::to_be_bytes));
+        chunk
     }
 
     fn advance(&mut self) {
