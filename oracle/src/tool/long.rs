@@ -4,7 +4,7 @@ use crate::generator::{Generator, Profile, Script, U32_MAX};
 use crate::profiles::PROFILES;
 use crate::random::Random;
 
-pub const LONG: [fn(u64, usize) -> Script; 3] = [wrapped_ssn, full_buffer, tiny_variance];
+pub const LONG: [fn(u64, usize) -> Script; 4] = [wrapped_ssn, full_buffer, tiny_variance, longest_sack];
 /// The streams of their random numbers: far from those of the other scripts.
 const STREAM: u64 = 1 << 60;
 
@@ -80,4 +80,21 @@ fn tiny_variance(seed: u64, calls: usize) -> Script {
     }
     g.go_on(estimator, g.made() + calls);
     Script { name: "tiny-variance", text: g.finish() }
+}
+
+/// A SACK with as many blocks as its length field can tell, over a full flight whose TSNs wrap: refused for its last block, then taken.
+fn longest_sack(seed: u64, calls: usize) -> Script {
+    let mut g = Generator::new(Random::new(seed, STREAM + 3));
+    let sacks = profile("sacks");
+    g.begin(sacks);
+    let first = U32_MAX - g.random.below(200);
+    g.say(format_args!("sender {first} 0"));
+    g.say(format_args!("open 500 10"));
+    g.say(format_args!("write 500 53 0 2555"));
+    for _ in 0..255 {
+        g.say(format_args!("send 0"));
+    }
+    g.longest_sack();
+    g.go_on(sacks, g.made() + calls / 2);
+    Script { name: "longest-sack", text: g.finish() }
 }

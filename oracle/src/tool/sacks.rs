@@ -75,6 +75,24 @@ impl Generator {
         }
     }
 
+    /// As many blocks as the length field can tell: 16,379. The last is bad first; then it is not.
+    pub fn longest_sack(&mut self) {
+        let (entries, covered) = (self.oracle.flight().1 as u64, 3);
+        let left = entries - covered;
+        let blocks: Vec<(u16, u16)> = (0..(u16::MAX - 16) / 4).map(|_| self.block(left)).collect();
+        let last = blocks[blocks.len() - 1];
+        let sack = Sack::new(self.cumulative(covered), blocks, vec![]);
+        self.put_bytes(&sack.bytes());
+        let (at, lent) = (sack.lent - 4, sack.lent);
+        self.say(format_args!("put {at} 4 {}", left + 1));
+        self.say(format_args!("sack {lent}"));
+        self.say(format_args!("put {at} 4 {}", u64::from(last.0) << 16 | u64::from(last.1)));
+        for lent in [lent - 1, lent + 4, lent, lent] {
+            self.say(format_args!("sack {lent}"));
+        }
+        self.say(format_args!("state s"));
+    }
+
     /// The wire itself: at its ends, and beyond them.
     pub fn wire(&mut self) {
         let end = 65_544;
