@@ -59,7 +59,7 @@ question row a =
 abbrev pub plainOf : (row a b c d : ℕ) → Call
 plainOf row a b c d = if ltb row 14 then change row a b c d else Call.Ask (question (row - 14) a)
 
--- from row 30 on: what has expired in flight, in a list of so much room, at most 256
+-- every row but 31; from row 30 on: what has expired in flight, in a list of so much room, at most 256
 abbrev pub callIn : (row a b c d : ℕ) → Model.Call
 callIn row a b c d =
     if ltb row 30 then meant (plainOf row a b c d)
@@ -69,7 +69,7 @@ callIn row a b c d =
 abbrev pub packetIn : (from count : ℕ) → (bytes : List ℕ) → List ℕ
 packetIn from n bytes = if leb (from + n) (length bytes) then take n (drop from bytes) else []
 
--- but row 31 is a SACK, of a part of the bytes
+-- row 31 is a SACK, of a part of the bytes that are lent with the words
 abbrev pub requestIn : (row a b c d : ℕ) → (bytes : List ℕ) → Request
 requestIn row a b c d bytes = if eqb row 31 then ReadSack (packetIn a b bytes) else Single (callIn row a b c d)
 

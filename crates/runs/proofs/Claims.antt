@@ -9,12 +9,12 @@ use Rattle.model.specs.declared.Block.{Block}
 use Rattle.model.specs.declared.Chunk.{Chunk}
 use Rattle.model.specs.Lists.{if_then_else_}
 use Rattle.model.specs.State.{Sender}
-use Rattle.model.specs.Calls.{Call, Acknowledge, Pop, Answer, step, run, answers, yielded, yieldsOf}
+use Rattle.model.specs.Calls.{Call, Acknowledge, Pop, step, run, answers, yielded, yieldsOf}
 use Rattle.model.specs.Sack.{cumulativeOf, isSack, blocksIn, allWithin}
 use Rattle.model.specs.Sacks.{covered, isStale, tsnsFrom, acknowledgedAndPopped, blockCalls, sackCalls}
-use Rattle.model.specs.Requests.{Request, Single, ReadSack, Reply, answered, serve, served, replies, sackSingles, singles, allSingles}
+use Rattle.model.specs.Requests.{Request, Single, ReadSack, Reply, answered, serve, served, replies, singles, allSingles}
 use Rattle.demands.proofs.Requests.{are-single-calls}
-use Rattle.runs.specs.Claims.{CallsAreRequests, FurtherRequests, yieldedIn, chunksOf, YieldsAreTold}
+use Rattle.runs.specs.Claims.{CallsAreRequests, FurtherRequests, yieldedIn, YieldsAreTold}
 
 calls-state : (room : Room) (ks : List Call) (s : Sender) → served room (map Single ks) s ≡ run room ks s
 calls-state room [] s = refl
