@@ -1,7 +1,7 @@
 -- A reply read back from its words, and what stands behind it: so the words tell the reply, and a tape tells all of them.
 use mathlib.Core.Path.{_≡_}
 use mathlib.Core.Bool.{Bool}
-use mathlib.Core.List.{List, [], _∷_, _++_}
+use mathlib.Core.List.{List, _++_}
 use Prim.Native.Nat.{ℕ}
 use lib.ListN.{getD, take, drop}
 use lib.Dec.{eqb}

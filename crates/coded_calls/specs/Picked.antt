@@ -8,13 +8,11 @@ use native.Mathlib.Omega.{arith}
 use lib.ListN.{length, getD}
 use borrow.Author.Tests.{lt-ltb, le-ltb, eq-eqb, ne-eqb}
 use lib.IntN.{ℤ, pos, negsuc, _-ℤ_}
-use lib.Signed.{mag}
 use mir.Syntax.{w64}
 use mir.Val.{SFits, toZ, ofZ}
 use mir.Facts.{toZ-pos, toZ-ofZ}
 use Rattle.model.specs.Calls as Model
 use Rattle.model.specs.Requests.{Single, ReadSack}
-use Rattle.model.specs.Lists.{if_then_else_}
 use Rattle.calls.specs.declared.Call.{Call}
 use Rattle.calls.specs.declared.Query.{Query}
 use Rattle.calls.specs.Meant.{meant}

@@ -1,7 +1,6 @@
 -- The words of an answer: what kind it is (1 to 15), which case of it (0 is a refusal, or nothing), and its numbers; then the chunk or the
 -- TSNs that it yields. Each number has a word of its own, and the kind and the case tell how many words there are, so that an answer can be
 -- read back (`WordsTell` of Back.antt).
-use mathlib.Core.Bool.{Bool}
 use mathlib.Core.List.{List, [], _∷_}
 use Prim.Native.Nat.{ℕ}
 use lib.ListN.{length}

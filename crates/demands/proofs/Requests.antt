@@ -3,7 +3,7 @@ use mathlib.Core.Path.{_≡_, refl, sym, ap, subst, _∙_}
 use mathlib.Core.Bool.{Bool, true, false}
 use mathlib.Core.Logic.{_⊎_, inl, inr}
 use mathlib.Core.Option.{some}
-use mathlib.Core.List.{List, [], _∷_, _++_, map}
+use mathlib.Core.List.{List, [], _∷_, _++_}
 use Prim.Native.Nat.{ℕ, _-_}
 use native.Mathlib.Omega.{arith}
 use lib.ListN.{length}
@@ -13,13 +13,13 @@ use Rattle.model.specs.declared.Block.{Block}
 use Rattle.model.specs.declared.Sacked.{Sacked}
 use Rattle.model.specs.Lists.{if_then_else_, total}
 use Rattle.model.specs.State.{Sender, Out, fresh, same}
-use Rattle.model.specs.Messages.{fragments, write}
+use Rattle.model.specs.Messages.{write}
 use Rattle.model.specs.Rings.{pendingOf}
 use Rattle.model.specs.Calls.{Call, step, run, answers, yieldsOf}
 use Rattle.model.specs.Sack.{cumulativeOf, isSack, blocksIn, allWithin}
 use Rattle.model.specs.Sacks.{covered, isStale, sackCalls, bytesIn, sacking, sack}
-use Rattle.model.specs.Requests.{Request, Single, ReadSack, serve, served, sackSingles, singles, allSingles}
-use Rattle.demands.specs.Words.{asCut, cutOf, abandons}
+use Rattle.model.specs.Requests.{Request, Single, ReadSack, serve, sackSingles, singles, allSingles}
+use Rattle.demands.specs.Words.{cutOf, abandons}
 use Rattle.demands.specs.Demand3.{Demand3}
 use Rattle.demands.specs.Kept.{NothingLostFrom, Final}
 use Rattle.demands.specs.States.{Kept}

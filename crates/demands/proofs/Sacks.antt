@@ -14,14 +14,14 @@ use Rattle.limits.specs.Limits.{Room, tsns}
 use Rattle.model.specs.declared.Block.{Block}
 use Rattle.model.specs.declared.Chunk.{Chunk}
 use Rattle.model.specs.declared.Found.{Found}
-use Rattle.model.specs.Lists.{if_then_else_, adjust, total}
-use Rattle.model.specs.State.{Sender, withEntries, place, inFlight, Out, same}
+use Rattle.model.specs.Lists.{adjust, total}
+use Rattle.model.specs.State.{Sender, withEntries, place, inFlight, Out}
 use Rattle.model.specs.Rings.{bytes}
 use Rattle.model.specs.Flight.{acknowledged, acknowledging, acknowledge, pop}
 use Rattle.model.specs.Calls.{Call, Acknowledge, Pop, Answer, toFind, step, run, answers}
 use Rattle.model.specs.Sack.{within, allWithin}
-use Rattle.model.specs.Sacks.{covered, tsnsFrom, acknowledgedAndPopped, blockCalls, sackCalls, bytesIn}
-use Rattle.demands.specs.Sacks.{gapped, sackedState, Closed, Accepted}
+use Rattle.model.specs.Sacks.{covered, tsnsFrom, acknowledgedAndPopped, blockCalls, bytesIn}
+use Rattle.demands.specs.Sacks.{gapped, Accepted}
 use Rattle.demands.proofs.Gaps.{acks, block-range, no-gaps, more-gaps}
 
 pub record Goes (room : Room) (ks : List Call) (s s′ : Sender) : Type 0 where

@@ -1,7 +1,7 @@
 -- What reading a SACK does. An accepted one is a list of single calls: the covered prefix is acknowledged and popped, then the blocks are
 -- acknowledged.
 use Prim.Native.Nat.{ℕ, zero, suc, _+_, _-_, _%_}
-use mathlib.Core.Bool.{Bool, true, false, _||_}
+use mathlib.Core.Bool.{Bool, false, _||_}
 use mathlib.Core.List.{List, [], _∷_, _++_, map}
 use lib.ListN.{length}
 use lib.Dec.{leb, ltb}

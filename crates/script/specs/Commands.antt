@@ -1,7 +1,7 @@
 -- Which call a row is, of words: the calls of the sender are coded calls, and the others stand here. A number that an argument cannot have
 -- is taken modulo what it can, as in the coded calls.
 use Prim.Native.Nat.{ℕ, _-_, _/_, _%_, _^_}
-use mathlib.Core.Bool.{Bool, true, false, cond, _&&_}
+use mathlib.Core.Bool.{true, cond, _&&_}
 use mathlib.Core.List.{List, [], _∷_}
 use lib.ListN.{getD}
 use lib.Dec.{eqb, ltb, leb}

@@ -2,7 +2,7 @@
 use mathlib.Core.Path.{_≡_}
 use mathlib.Core.Bool.{true, false}
 use Prim.Native.String.{String}
-use Prim.Native.Nat.{_^_, _-_}
+use Prim.Native.Nat.{_-_}
 use lib.IntN.{pos, negsuc}
 use Rattle.limits.specs.declared.Moment.{Moment}
 use Rattle.timer.specs.declared.Timer.{Timer}

@@ -1,8 +1,7 @@
 -- Two numbers of 16 bits; where the block begins past the end, both are 0.
-use Rattle.model.specs.declared.Block.{Block}
 use Rattle.octets.specs.Numbers.{short-past}
-use mathlib.Core.Path.{_≡_, sym}
-use Prim.Native.Nat.{ℕ, _+_, _*_}
+use mathlib.Core.Path.{sym}
+use Prim.Native.Nat.{_+_, _*_}
 use native.Mathlib.Omega.{arith}
 use denote.Ref.{now}
 use borrow.Author.Needs.{needs}

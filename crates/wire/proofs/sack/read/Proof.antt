@@ -1,9 +1,8 @@
 -- Each test is one of 13's, in 13's order.
 use Rattle.wire.specs.declared.sack.Layout.{Layout}
-use mathlib.Core.Path.{_≡_, sym, ap, _∙_}
+use mathlib.Core.Path.{sym, _∙_}
 use native.Mathlib.Omega.{arith}
 use Rattle.wire.specs.Layouts.{too-few, other-type, other-length, other-lent, it-is}
-use Rattle.model.specs.Sack.{blockCount, duplicateCount}
 use denote.Ref.{now}
 use borrow.Author.Needs.{needs}
 use Rattle.wire.proofs.sack.read.Statement.{statement}
