@@ -1,28 +1,21 @@
 -- Rounding keeps the order, and a whole number up to 2 ^ 53 is a float: so a sum, a product or a quotient stays below such a bound where its exact value does. Assumes nothing.
 use mathlib.Core.Path.{_≡_, refl, sym, ap, _∙_, subst}
-use mathlib.Core.Logic.{_⊎_, inl, inr}
-use mathlib.Core.Bool.{Bool, true, false, cond, _&&_, _||_, true≢false}
+use mathlib.Core.Bool.{Bool, true, false, cond, true≢false}
 use Prim.Native.Nat.{ℕ, _+_, _-_, _*_, _/_, _^_, _≤_, _<_, min}
-use native.Mathlib.Nat.{le-trans, le-of-eq, le-of-lt, mul-one, mul-assoc, mul-comm, mul-right-comm, mul-mul-mul-comm, add-mul, mul-le-mul, mul-le-mul-right, le-of-mul-le-mul-right, mul-pos, zero-lt-suc, div-le-of-le-mul}
+use native.Mathlib.Nat.{le-trans, le-of-eq, mul-one, mul-assoc, mul-comm, mul-right-comm, mul-mul-mul-comm, add-mul, mul-le-mul, mul-le-mul-right, le-of-mul-le-mul-right, mul-pos, zero-lt-suc, div-le-of-le-mul}
 use native.Mathlib.Omega.{arith}
-use lib.Dec.{T, ltb, eqb, ltb→lt, eqb→eq}
+use lib.Dec.{T, ltb}
 use lib.Ieee.{Float, nan, inf, fin, up, down, binary64, odd, units, round, mul, add, div, le, toUnsigned}
 use lib.Ieee.Back.{round-whole}
 use lib.Ieee.Exact.{HasValue, odd-sign}
-use lib.Ieee.Fits.{down-pos, and-l, round-is}
+use lib.Ieee.Fits.{down-pos, round-is}
 use lib.Ieee.Order.{drop, kept, round-mono}
 use Rattle.rto.specs.Rto.{f64}
 use Rattle.rto.specs.Range.{AtMost}
 use Rattle.rto.proofs.Float.{whole, plain, mul-at, add-at, div-at}
+use Rattle.rto.proofs.Value.{lt-or-eq}
 
 -- ---- a rounded fraction
-or-split : (a b : Bool) → T (a || b) → T a ⊎ T b
-or-split true b t = inl tt
-or-split false b t = inr t
-
-lt-or-eq : (a b : ℕ) → T (ltb a b || (eqb a b && true)) → a ≤ b
-lt-or-eq a b t = elim (or-split (ltb a b) (eqb a b && true) t) [ inl u ↦ le-of-lt (ltb→lt a b u) | inr u ↦ le-of-eq (eqb→eq a b (and-l (eqb a b) true u)) ]
-
 -- x is not negative, and no larger than y, which is b
 below : (x y : Float) (a c b : ℕ) → HasValue x false a c → HasValue y false b 1 → T (le x y) → AtMost x b
 unfolding le

@@ -11,6 +11,7 @@ use lib.Pow.{pow-pos}
 use borrow.Author.Tests.{ltb-false, eqb-false, lt-ltb}
 use lib.Ieee.{Float, nan, inf, fin, up, down, lt, le, toUnsigned}
 use lib.Ieee.Fits.{down-pos, and-r}
+use Rattle.rto.proofs.Float.{not-zero}
 
 is-false : (b : Bool) → T b → b ≡ false → ⊥
 is-false true t e = true≢false e
@@ -51,9 +52,6 @@ low (inf true) e = refl
 low (inf false) e = absurd (true≢false e)
 low (fin true m d) e = refl
 low (fin false m d) e = none (m * up d) (down d) (over (1 * down d) (m * up d * 1) e)
-
-not-zero : (n : ℕ) → 0 < n → n ≡ 0 → ⊥
-not-zero n h e = omega arith
 
 pub above : (x : Float) → le (fin false 1 (pos 0)) x ≡ true → lt (fin true 1 (pos 0)) x ≡ true
 unfolding le

@@ -7,30 +7,18 @@ use native.Mathlib.Omega.{arith}
 use lib.Dec.{lit≤}
 use lib.Pow.{pow-add, pow-pos, pow-mono}
 use lib.Ieee.{Float, binary64, round, mul, add, div, ofInt}
-use lib.Ieee.Back.{round-whole}
 use lib.Ieee.Exact.{HasValue}
 use lib.Ieee.Scale.{round-same}
 use Rattle.rto.specs.Rto.{f64, gap, firstVar, nextVar}
 use Rattle.rto.specs.Exact.{Exact, places, none, begun, grown, Exact18}
-use Rattle.rto.proofs.Float.{whole, mul-at, add-at, div-at, dyadic}
+use Rattle.rto.proofs.Float.{whole, mul-at, add-at, div-at, written, doubled, dyadic}
 use Rattle.rto.proofs.Runs.{Bounded, near, from-fresh}
-
--- a value that is a rounded fraction, at the same fraction written in another way
-pub written : (x : Float) (a c a' c' : ℕ) → x ≡ round binary64 false a c → a ≡ a' → c ≡ c' → HasValue (round binary64 false a' c') false a' c' → HasValue x false a' c'
-written x a c a' c' e p q h =
-    subst (λ (z : Float). HasValue z false a' c') (sym (e ∙ ap (λ (z : ℕ). round binary64 false z c) p ∙ ap (λ (z : ℕ). round binary64 false a' z) q)) h
 
 small : (n : ℕ) → n ≤ 60000 → n < 2 ^ 53
 small n h = omega arith
 
 twice-small : (n : ℕ) → n ≤ 60000 → 2 * n ≤ 2 ^ 53
 twice-small n h = omega arith
-
-two-gap : (d : ℕ) → d ≤ 60000 → HasValue (mul binary64 (f64 2) (f64 d)) false (2 * d) 1
-two-gap d near =
-    written (mul binary64 (f64 2) (f64 d)) (2 * d) 1 (2 * d) 1
-    (mul-at (f64 2) (f64 d) 2 1 d 1 (zero-lt-suc 0) (zero-lt-suc 0) (whole 2 (lit≤ tt)) (whole d (le-of-lt (small d near))))
-    refl refl (round-whole binary64 false (2 * d) (twice-small d near))
 
 -- ---- one measurement
 first-exact : (r : ℕ) → r ≤ 60000 → HasValue (firstVar r) false r 2
@@ -71,7 +59,7 @@ module _ (v : Float) (N k d : ℕ) (has : HasValue v false N (2 ^ k)) (bound : N
   sum-exact : HasValue (add binary64 (mul binary64 (f64 6) v) (mul binary64 (f64 2) (f64 d))) false (M * 2) P
   sum-exact =
       written (add binary64 (mul binary64 (f64 6) v) (mul binary64 (f64 2) (f64 d))) (3 * N * 2 * 1 + 2 * d * P) (P * 1) (M * 2) P
-      (add-at (mul binary64 (f64 6) v) (mul binary64 (f64 2) (f64 d)) (3 * N * 2) P (2 * d) 1 (pow-pos k) (zero-lt-suc 0) six-v (two-gap d near))
+      (add-at (mul binary64 (f64 6) v) (mul binary64 (f64 2) (f64 d)) (3 * N * 2) P (2 * d) 1 (pow-pos k) (zero-lt-suc 0) six-v (doubled d (twice-small d near)))
       both (mul-one P) (dyadic M 1 k M-small (lit≤ tt) (le-trans early (lit≤ tt)))
 
   eighth : M * 2 * 1 * 2 ^ (k + 2) ≡ M * 1 * (8 * P)

@@ -1,12 +1,12 @@
 -- A product, a sum and a quotient of values that are not negative, by any fractions that the operands equal: each is that fraction, rounded once.
 -- And where the fraction is q * 2 ^ i / 2 ^ k with a q below 2 ^ 53, nothing is rounded away. Assumes nothing.
-use mathlib.Core.Path.{_≡_, sym, ap, _∙_, subst}
+use mathlib.Core.Path.{_≡_, refl, sym, ap, _∙_, subst}
 use Prim.Native.Nat.{ℕ, zero, suc, _+_, _-_, _*_, _^_, _≤_, _<_}
 use native.Mathlib.Nat.{mul-comm, mul-assoc, mul-left-comm, mul-mul-mul-comm, mul-pos, add-mul, lt-irrefl, zero-lt-suc, lt-of-lt-of-le, zero-mul}
 use native.Mathlib.Omega.{arith}
 use mathlib.Core.Bool.{Bool, true, false, cond, true≢false}
 use lib.IntN.{ℤ}
-use lib.Dec.{eqb}
+use lib.Dec.{eqb, lit≤}
 use lib.Pow.{pow-add, pow-pos, pow-mono, shl-lt}
 use borrow.Author.Tests.{ne-eqb}
 use lib.Ieee.{Float, nan, inf, fin, binary64, up, down, round, mul, add, div, ofInt}
@@ -55,7 +55,7 @@ digits-pos : (n u d b g : ℕ) → n * u * d ≡ b * g → 0 < b → 0 < g → 0
 digits-pos zero u d b g h B G = absurd (lt-irrefl 0 (subst (λ (w : ℕ). 0 < w) (sym h ∙ ap (λ (w : ℕ). w * d) (zero-mul u) ∙ zero-mul d) (mul-pos B G)))
 digits-pos (suc n) u d b g h B G = zero-lt-suc n
 
-not-zero : (n : ℕ) → 0 < n → n ≡ 0 → ⊥
+pub not-zero : (n : ℕ) → 0 < n → n ≡ 0 → ⊥
 not-zero n h e = omega arith
 
 -- ---- the operations
@@ -90,6 +90,20 @@ module _ (x y : Float) (a c b d : ℕ) (C : 0 < c) (D : 0 < d) (h : HasValue x f
       (div-frac (m * up e) (n * up g) (down e) (down g) a c b d p q))
 
 -- ---- where nothing is rounded away
+-- a value that is a rounded fraction, at the same fraction written in another way
+pub written : (x : Float) (a c a' c' : ℕ) → x ≡ round binary64 false a c → a ≡ a' → c ≡ c' → HasValue (round binary64 false a' c') false a' c' → HasValue x false a' c'
+written x a c a' c' e p q h =
+    subst (λ (z : Float). HasValue z false a' c') (sym (e ∙ ap (λ (z : ℕ). round binary64 false z c) p ∙ ap (λ (z : ℕ). round binary64 false a' z) q)) h
+
+half : (d : ℕ) → 2 * d ≤ 2 ^ 53 → d ≤ 2 ^ 53
+half d h = omega arith
+
+pub doubled : (d : ℕ) → 2 * d ≤ 2 ^ 53 → HasValue (mul binary64 (f64 2) (f64 d)) false (2 * d) 1
+doubled d h =
+    written (mul binary64 (f64 2) (f64 d)) (2 * d) 1 (2 * d) 1
+    (mul-at (f64 2) (f64 d) 2 1 d 1 (zero-lt-suc 0) (zero-lt-suc 0) (whole 2 (lit≤ tt)) (whole d (half d h)))
+    refl refl (round-whole binary64 false (2 * d) h)
+
 place : (i k : ℕ) → k ≤ 1074 → i + 1074 - k + k ≡ i + 1074
 place i k h = omega arith
 

@@ -17,9 +17,9 @@ use Rattle.rto.specs.Calls.{measure, ofMeasured, called, after}
 use Rattle.rto.specs.Exact.{places, none, followed, exactly}
 use Rattle.rto.specs.Rfc.{RfcRttvar, RfcSrtt, Taken, RfcSrttAfter, RfcRto}
 use Rattle.rto.proofs.Cases.{taken, first, next}
-use Rattle.rto.proofs.Float.{whole, plain, mul-at, dyadic}
+use Rattle.rto.proofs.Float.{whole, plain, mul-at, written, dyadic}
 use Rattle.rto.proofs.Runs.{quadruple, from-fresh, measured-sample}
-use Rattle.rto.proofs.Exact.{Held, blank, begins, kept, written}
+use Rattle.rto.proofs.Exact.{Held, blank, begins, kept}
 
 -- ---- the recurrence
 scaled : (n d g p q : ℕ) → g ≡ d → q ≡ p * 4 → (3 * n + d * p) * (4 * p * 4) ≡ (3 * n * 4 + 1 * g * (4 * p)) * q

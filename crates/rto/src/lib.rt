@@ -42,7 +42,7 @@ fn first_var(rtt: u64) -> f64
     std::num::nearest_u64_to_f64(rtt) / 2.0
 }
 
-fn gap_of(a: u64, b: u64) -> u64
+pub fn gap_of(a: u64, b: u64) -> u64
     ensures { λ d. ⌜ d ≡ gap a b ⌝ }
 {
     if a <= b { b - a } else { a - b }
@@ -108,7 +108,7 @@ fn larger(a: u64, b: u64) -> u64
 }
 
 // The sum is made only where it is within the maximum, so it never wraps.
-fn clamped(low: u64, high: u64, srtt: u64, spread: u64) -> u64
+pub fn clamped(low: u64, high: u64, srtt: u64, spread: u64) -> u64
     ensures { λ x. ⌜ x ≡ clamp low high (srtt + spread) ⌝ }
 {
     if srtt > high {

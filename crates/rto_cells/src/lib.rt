@@ -6,9 +6,14 @@ use rto::Measured;
 use rto::RtoManager;
 use rto::Set;
 ghost use mathlib.Core.Path.{_≡_};
+ghost use mathlib.Core.Bool.{true};
+ghost use Prim.Native.Nat.{_≤_};
 ghost use lib.ListN.{length};
+ghost use Rattle.limits.specs.Limits.{settingMax};
 ghost use Rattle.limits.specs.Flags.{bitOf};
 ghost use Rattle.limits.specs.Told.{refusing};
+ghost use Rattle.rto.specs.Rto.{nextVar, fourTimes, measuredOf};
+ghost use Rattle.rto.specs.Usual.{Usual, AfterUsual, isUsual};
 ghost use Rattle.rto_cells.specs.Words.{managerIn, headOf};
 ghost use Rattle.rto_cells.specs.Says.{saidOf, saidTold, saidMeasured, Creates, Measures, Gets, Resets, Sets};
 
@@ -120,6 +125,87 @@ fn measured(head: Head, a: Measured) -> SaidSmoothed
     }
 }
 
+// ---- a measurement
+//
+// `rto` is the definition, operation by operation. Most measurements find a usual estimator (`isUsual`): updates are on, it has a measurement, srtt is within
+// the limit, and rttvar from 1/8 to 2^32. There a quicker way leads to the same numbers, and it stands here; every other measurement is left to `rto`.
+
+fn is_usual(m: RtoManager) -> bool
+    ensures { λ yes. ⌜ yes ≡ isUsual m ⌝ }
+{
+    if m.no_update {
+        return false;
+    }
+    if m.srtt == 0 {
+        return false;
+    }
+    if m.srtt > limits::SETTING_MAX {
+        return false;
+    }
+    if m.rttvar >= 0.125 {
+        return m.rttvar <= 4294967296.0;
+    }
+    false
+}
+
+// The float that (6.0 * rttvar + 2.0 * distance) / 8.0 rounds to, by one operation fewer: a multiplication by 8 goes through each rounding.
+fn usual_rttvar(rttvar: f64, srtt: u64, rtt: u64) -> f64
+    requires { ⌜ Usual rttvar ⌝ ∗ ⌜ srtt ≤ settingMax ⌝ ∗ ⌜ rtt ≤ settingMax ⌝ }
+    ensures { λ v. ⌜ v ≡ nextVar rttvar srtt rtt ⌝ }
+{
+    0.75 * rttvar + 0.25 * (rto::gap_of(srtt, rtt) as f64)
+}
+
+// The weight of the digit that a float's bits leave out: 2^52.
+const LEADING: u64 = 4_503_599_627_370_496;
+
+// The floor of 4 x rttvar, with nothing left to be tested: the 52 digits that the bits end with, with the leading one put back, shifted down by what the
+// exponent above them says.
+fn usual_spread(rttvar: f64) -> u64
+    requires { ⌜ AfterUsual rttvar ⌝ }
+    ensures { λ q. ⌜ q ≡ fourTimes rttvar ⌝ }
+{
+    let bits = f64::to_bits(rttvar);
+    let exponent = bits / LEADING;
+    (bits % LEADING + LEADING) >> (1073 - exponent)
+}
+
+// Of an srtt within the limit: 7 * srtt + rtt cannot wrap.
+fn usual_answer(m: RtoManager, rtt: u64) -> Measured
+    requires { ⌜ isUsual m ≡ true ⌝ ∗ ⌜ rtt ≤ settingMax ⌝ }
+    ensures { λ a. ⌜ a ≡ measuredOf m rtt ⌝ }
+{
+    let rttvar = usual_rttvar(m.rttvar, m.srtt, rtt);
+    let srtt = (7 * m.srtt + rtt) / 8;
+    let rto = rto::clamped(m.rto_min, m.rto_max, srtt, usual_spread(rttvar));
+    Measured::Srtt(
+        srtt,
+        RtoManager {
+            srtt,
+            rttvar,
+            rto,
+            no_update: m.no_update,
+            rto_initial: m.rto_initial,
+            rto_min: m.rto_min,
+            rto_max: m.rto_max,
+        },
+    )
+}
+
+// The answer of `rto`, by either way. The time is tested before the flag is, so that the flag is not loaded as one pair with the srtt beside it, which the last
+// measurement stored alone.
+fn measure(m: RtoManager, rtt: u64) -> Measured
+    ensures { λ a. ⌜ a ≡ measuredOf m rtt ⌝ }
+{
+    if rtt > limits::SETTING_MAX {
+        return Measured::Refused(limits::BEYOND_LIMIT);
+    }
+    if is_usual(m) {
+        return usual_answer(m, rtt);
+    }
+    m.set_new_rtt(rtt)
+}
+
 // ---- the calls
 
 // An estimator without a measurement, whatever the numbers were. The initial RTO is not clamped. Refusals: 1, 2.
@@ -151,7 +237,7 @@ pub fn set_new_rtt(head: Head, cells: &mut [u64], rtt: u64) -> SaidSmoothed
         return untimed(head, limits::BEYOND_LIMIT);
     }
     let manager = unpacked(head, cells[0], cells[1], cells[2], cells[3]);
-    let a = manager.set_new_rtt(rtt);
+    let a = measure(manager, rtt);
     measured(head, a)
 }
 

@@ -1,4 +1,4 @@
--- Refused for the number of words, or what the call of `rto` tells (`timed`).
+-- Refused for the number of words, or what `measure` tells (`timed`).
 use native.Mathlib.Omega.{arith}
 use denote.Ref.{now}
 use Rattle.rto_cells.proofs.Laws.{untimed, timed}
@@ -27,8 +27,8 @@ slice-read-unpacked-4 c = search needs
 unpacked-requires : tie.Need-unpacked-requires
 unpacked-requires c κs = search needs
 
-set-new-rtt-requires : tie.Need-set-new-rtt-requires
-set-new-rtt-requires c κs = search needs
+measure-requires : tie.Need-measure-requires
+measure-requires c κs = search needs
 
 measured-requires : tie.Need-measured-requires
 measured-requires c κs = search needs
@@ -36,7 +36,7 @@ measured-requires c κs = search needs
 returns-2 : tie.Need-returns-2
 returns-2 c =
     let a = c .before .before .before .before .before .before .before .before .before .args in
-    timed (a .head) (now (a .cells)) (a .rtt) (omega arith) _ (c .before .before .unpacked .ensures) _ (c .before .set-new-rtt .ensures) _ (c .measured .ensures)
+    timed (a .head) (now (a .cells)) (a .rtt) (omega arith) _ (c .before .before .unpacked .ensures) _ (c .before .measure .ensures) _ (c .measured .ensures)
 
 pub set-new-rtt-spec : {M : Type 1} → statement M
 set-new-rtt-spec =
@@ -49,6 +49,6 @@ set-new-rtt-spec =
     slice-read-unpacked-3
     slice-read-unpacked-4
     unpacked-requires
-    set-new-rtt-requires
+    measure-requires
     measured-requires
     returns-2)
