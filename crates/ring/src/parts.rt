@@ -2,16 +2,18 @@
 // i-th is its `adjust`.
 use super::Ring;
 ghost use mathlib.Core.Path.{_≡_};
-ghost use Prim.Native.Nat.{min};
+ghost use Prim.Native.Nat.{_+_, _≤_, min};
 ghost use lib.ListN.{getD};
 ghost use Rattle.limits.specs.Limits.{clockMax};
 ghost use Rattle.model.specs.Lists.{adjust};
 ghost use Rattle.model.specs.Rings.{givenUp, lowered, started};
 ghost use Rattle.model.specs.Flight.{acknowledged, toRetransmit, hasStream};
 ghost use Rattle.rows.specs.Parts.{part};
+ghost use Rattle.cells.specs.Slots.{roomOf};
 ghost use Rattle.chunk_slot.specs.Chunks.{chunks, blankChunk};
 ghost use Rattle.chunk_slot.specs.Changes.{heldOf};
 ghost use Rattle.ring.specs.Held.{held};
+ghost use Rattle.ring.specs.Streams.{Adds};
 
 // The message number of the i-th, and 0 past the end.
 pub fn nth_number(ring: Ring, cells: &[u64], i: usize) -> u64
@@ -29,9 +31,26 @@ pub fn nth_length(ring: Ring, cells: &[u64], i: usize) -> u32
     chunk_slot::parts::length_at(cells, at)
 }
 
-// Whether some slot from `from` on and before `to` is of the stream; past the room there is none. The end is brought down to the room, so that
-// the compiler leaves out the test of each slot.
-fn among(cells: &[u64], from: usize, to: usize, stream: u16) -> bool
+// Whether one of the four slots from `at` on is of the stream.
+fn among_four(cells: &[u64], at: usize, stream: u16) -> bool
+    requires { ⌜ at + 4 ≤ roomOf (now cells) ⌝ }
+    ensures { λ r. ⌜ Adds stream at (at + 4) (chunks (now (cells .entry))) r ⌝ }
+{
+    if chunk_slot::parts::stream_at(cells, at) == stream {
+        return true;
+    }
+    if chunk_slot::parts::stream_at(cells, at + 1) == stream {
+        return true;
+    }
+    if chunk_slot::parts::stream_at(cells, at + 2) == stream {
+        return true;
+    }
+    chunk_slot::parts::stream_at(cells, at + 3) == stream
+}
+
+// Whether some slot from `from` on and before `to` is of the stream, one by one; past the room there is none. The end is brought down to the room,
+// so that the compiler leaves out the test of each slot.
+fn among_each(cells: &[u64], from: usize, to: usize, stream: u16) -> bool
     ensures { λ r. ⌜ r ≡ hasStream stream (part from to (chunks (now (cells .entry)))) ⌝ }
 {
     let room = cells::room(cells);
@@ -44,6 +63,25 @@ fn among(cells: &[u64], from: usize, to: usize, stream: u16) -> bool
         at += 1;
     }
     false
+}
+
+// The same, four in a turn as long as there are so many: a slot is one word to read, and a turn for each takes longer than that.
+fn among(cells: &[u64], from: usize, to: usize, stream: u16) -> bool
+    ensures { λ r. ⌜ r ≡ hasStream stream (part from to (chunks (now (cells .entry)))) ⌝ }
+{
+    let room = cells::room(cells);
+    let end = if to < room { to } else { room };
+    if end <= from {
+        return false;
+    }
+    let mut at = from;
+    while at + 4 <= end {
+        if among_four(cells, at, stream) {
+            return true;
+        }
+        at += 4;
+    }
+    among_each(cells, at, to, stream)
 }
 
 // Whether some chunk is of the stream: among the slots from the start on, or past the seam, from slot 0 on.
