@@ -44,7 +44,7 @@ fn payload(out: &mut [u8], at: usize, offset: u64, length: u32) -> usize {
 
 fn head_of(out: &mut [u8], at: usize, tsn: u32, chunk: Chunk) -> usize {
     let message = chunk.message;
-    let flags = stream::flags::octet(chunk);
+    let flags = wire::flags::octet(chunk);
     let values = [
         tsn as u64,
         message.stream as u64,

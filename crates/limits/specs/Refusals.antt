@@ -60,3 +60,15 @@ badSack = 13
 -- a block of a SACK that is not stale has start 0, its start above its end, or its end beyond the newest entry
 abbrev pub badBlock : ℕ
 badBlock = 14
+
+-- no entry in flight has the TSN, or the one that has it is acknowledged or abandoned
+abbrev pub noEntry : ℕ
+noEntry = 15
+
+-- the entry's payload is not within the bytes lent
+abbrev pub payloadOutside : ℕ
+payloadOutside = 16
+
+-- the chunk is longer than the output lent
+abbrev pub outputShort : ℕ
+outputShort = 17

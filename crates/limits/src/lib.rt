@@ -45,6 +45,12 @@ pub const COUNT_FULL: u8 = 12;
 pub const BAD_SACK: u8 = 13;
 // A block of a SACK that is not stale has start 0, its start above its end, or its end beyond the newest entry.
 pub const BAD_BLOCK: u8 = 14;
+// No entry in flight has the TSN, or the one that has it is acknowledged or abandoned.
+pub const NO_ENTRY: u8 = 15;
+// The entry's payload is not within the bytes lent.
+pub const PAYLOAD_OUTSIDE: u8 = 16;
+// The chunk is longer than the output lent, its padding counted.
+pub const OUTPUT_SHORT: u8 = 17;
 
 // A moment of the clock, in milliseconds, that may be missing: a deadline, or the time of a send.
 pub enum Moment {

@@ -12,4 +12,5 @@ pub mod Calls
 pub mod Sack
 pub mod Sacks
 pub mod Requests
+pub mod Data
 pub mod Scenes

@@ -158,3 +158,22 @@ pub enum Sacked {
     Stale,
     Refused(u8),
 }
+
+// Writing a chunk: how many bytes it takes in the lent output, padding included.
+pub enum Laid {
+    Bytes(usize),
+    Refused(u8),
+}
+
+// What the bytes of a DATA chunk say; `length` counts the payload, which stands behind the 16 bytes of the header.
+pub enum Data {
+    Chunk {
+        tsn: u32,
+        stream: u16,
+        ssn: u16,
+        flags: u8,
+        protocol: u32,
+        length: u16,
+    },
+    Other,
+}

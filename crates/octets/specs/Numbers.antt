@@ -1,11 +1,11 @@
 -- Numbers of 16 and 32 bits in bytes, the highest first, as the chunks of RFC 9260 have them.
 use mathlib.Core.Path.{_≡_}
-use mathlib.Core.List.{List}
-use Prim.Native.Nat.{ℕ, _+_, _*_, _≤_}
+use mathlib.Core.List.{List, [], _∷_, _++_}
+use Prim.Native.Nat.{ℕ, _+_, _*_, _/_, _%_, _≤_}
 use native.Mathlib.Omega.{arith}
-use lib.ListN.{length, getD, List·getD-eq-default}
+use lib.ListN.{length, getD, replicate, List·getD-eq-default}
 
--- ---- a byte past the end is 0
+-- ---- reading: a byte past the end is 0
 
 abbrev pub byteAt : (place : ℕ) → List ℕ → ℕ
 byteAt i l = getD l i 0
@@ -15,6 +15,17 @@ shortAt i l = byteAt i l * 256 + byteAt (i + 1) l
 
 abbrev pub longAt : (place : ℕ) → List ℕ → ℕ
 longAt i l = shortAt i l * 65536 + shortAt (i + 2) l
+
+-- ---- writing
+
+abbrev pub shortBytes : ℕ → List ℕ
+shortBytes n = n / 256 ∷ n % 256 ∷ []
+
+abbrev pub longBytes : ℕ → List ℕ
+longBytes n = shortBytes (n / 65536) ++ shortBytes (n % 65536)
+
+abbrev pub zeros : (count : ℕ) → List ℕ
+zeros n = replicate n 0
 
 -- ---- past the end there is nothing
 

@@ -21,7 +21,7 @@ use Rattle.model.specs.Sack.{cumulativeOf, blockCount, isSack, blocksIn, blocks
 use Rattle.model.specs.Sacks.{covered, isStale, sackCalls, bytesIn, sacking, sack}
 use Rattle.demands.specs.Sacks.{sackedFlight, Closed}
 use Rattle.wire.specs.declared.sack.Layout.{Layout}
-use Rattle.wire.specs.Layouts.{layoutOf}
+use Rattle.wire.specs.SackReads.{layoutOf}
 use Rattle.rows.specs.Parts.{patch, patch-own}
 use Rattle.rows.specs.Spared.{Spares}
 use Rattle.payload_queue.specs.declared.PayloadQueue.{PayloadQueue}

@@ -1,7 +1,6 @@
 // One stream by value: its settings, and what the fragments of a message share. What a write, a release and an expiry do to it stands in
 // `amounts`, the table of streams in `stream_table`. A message is cut by the caller, who has the ring.
 pub mod amounts;
-pub mod flags;
 
 use limits::Moment;
 use model::Message;

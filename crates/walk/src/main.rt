@@ -20,7 +20,7 @@ fn refusal(number: u8) {
 
 fn row(tsn: u32, c: Chunk) {
     let shared = c.message;
-    let flags = stream::flags::octet(c);
+    let flags = wire::flags::octet(c);
     show::number(b"", tsn as u64);
     show::number(b" ", shared.stream as u64);
     show::number(b" ", shared.ssn as u64);

@@ -3,7 +3,7 @@
 use model::Block;
 ghost use mathlib.Core.Path.{_≡_};
 ghost use Rattle.model.specs.Sack.{blockAt, blocksFrom, within, allWithin};
-ghost use Rattle.wire.specs.Layouts.{layoutOf};
+ghost use Rattle.wire.specs.SackReads.{layoutOf};
 
 // The chunk type.
 const SACK: u8 = 3;

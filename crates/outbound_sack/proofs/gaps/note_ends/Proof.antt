@@ -8,7 +8,7 @@ use denote.Ref.{now}
 use lib.ListN.{length}
 use Rattle.model.specs.Sack.{blocksFrom}
 use Rattle.model.specs.declared.Block.{Block}
-use Rattle.wire.specs.Walks.{next-block, no-block}
+use Rattle.wire.specs.SackWalks.{next-block, no-block}
 use Rattle.outbound_sack.specs.Notes.{same-long}
 use Rattle.outbound_sack.specs.Ends.{noted, notedAll}
 use borrow.Author.Needs.{needs}

@@ -4,7 +4,7 @@ use native.Mathlib.Nat.{sub-zero}
 use borrow.Author.Tests.{not-true, not-false}
 use borrow.Author.Needs.{needs}
 use Rattle.model.specs.Sack.{blocksFrom, allWithin}
-use Rattle.wire.specs.Walks.{no-block, left-within, is-within, not-within}
+use Rattle.wire.specs.SackWalks.{no-block, left-within, is-within, not-within}
 use mathlib.Core.Path.{_≡_, sym, ap, _∙_}
 use Prim.Native.Nat.{ℕ, _-_, _≤_}
 use native.Mathlib.Omega.{arith}

@@ -2,7 +2,7 @@
 use Rattle.wire.specs.declared.sack.Layout.{Layout}
 use mathlib.Core.Path.{sym, _∙_}
 use native.Mathlib.Omega.{arith}
-use Rattle.wire.specs.Layouts.{too-few, other-type, other-length, other-lent, it-is}
+use Rattle.wire.specs.SackReads.{too-few, other-type, other-length, other-lent, it-is}
 use denote.Ref.{now}
 use borrow.Author.Needs.{needs}
 use Rattle.wire.proofs.sack.read.Statement.{statement}
