@@ -38,7 +38,8 @@ pub fn contains_stream(q: PayloadQueue, cells: &[u64], stream: u16) -> bool
     ring::parts::has_stream(q.ring, cells, stream)
 }
 
-fn is_outstanding(chunk: Chunk) -> bool
+// Neither acknowledged nor abandoned.
+pub fn is_outstanding(chunk: Chunk) -> bool
     ensures { λ r. ⌜ r ≡ outstanding chunk ⌝ }
 {
     if chunk.acked {
