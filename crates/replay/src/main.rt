@@ -86,13 +86,13 @@ fn sacked(
     at: usize,
     length: u64,
 ) -> Sender {
-    let n = answers::wire::place_in(wire, length);
+    let n = answers::arrays::place_in(wire, length);
     let after = sender_calls::flight::sack(h, cells, &wire[0..n]);
     let head = after.head;
     let answer = after.answer;
     Sender {
         head: head,
-        at: answers::wire::sacked(out, at, answer),
+        at: answers::arrays::sacked(out, at, answer),
     }
 }
 
@@ -122,13 +122,13 @@ fn asked(
         Command::SetBuffered { identifier, amount } => {
             answers::sender::set_buffered(h, cells, out, at, identifier, amount)
         }
-        Command::Wipe { byte } => answers::wire::wipe(wire, out, at, byte),
+        Command::Wipe { byte } => answers::arrays::wipe(wire, out, at, byte),
         Command::Put {
             at: from,
             width,
             value,
-        } => answers::wire::put(wire, out, at, from, width, value),
-        Command::Look { at: from, count } => answers::wire::look(wire, out, at, from, count),
+        } => answers::arrays::put(wire, out, at, from, width, value),
+        Command::Look { at: from, count } => answers::arrays::look(wire, out, at, from, count),
         _ => at,
     }
 }

@@ -4,8 +4,8 @@ use Prim.Native.Nat.{_-_, _≤_}
 use native.Mathlib.Omega.{arith}
 use lib.ListN.{length, length-set}
 use borrow.Author.Needs.{needs}
-use Rattle.answers.proofs.wire.wipe.Statement.{statement}
-use Rattle.answers.proofs.wire.wipe.Tie as tie
+use Rattle.answers.proofs.arrays.wipe.Statement.{statement}
+use Rattle.answers.proofs.arrays.wipe.Tie as tie
 
 abbrev Inv-loop : tie.InvT-loop
 Inv-loop wire₀ out at byte n i₀ wire i = (i ≤ n) × (n ≡ length wire₀) × (length wire ≡ length wire₀)

@@ -2,8 +2,8 @@
 use mathlib.Core.Path.{_≡_, refl}
 use lib.ListN.{length}
 use borrow.Author.Needs.{needs}
-use Rattle.answers.proofs.wire.put.Statement.{statement}
-use Rattle.answers.proofs.wire.put.Tie as tie
+use Rattle.answers.proofs.arrays.put.Statement.{statement}
+use Rattle.answers.proofs.arrays.put.Tie as tie
 
 abbrev Inv-loop : tie.InvT-loop
 Inv-loop wire₀ out at from width value rest₀ i₀ wire rest i = length wire ≡ length wire₀
