@@ -1,18 +1,23 @@
--- From the last byte on; the wire keeps its length.
-use mathlib.Core.Path.{_≡_, refl}
+-- From the last byte on: with what is left, the bytes come to the whole number.
+use mathlib.Core.Path.{_≡_, refl, ap, _∙_}
+use Prim.Native.Nat.{ℕ}
+use native.Mathlib.Omega.{arith}
 use lib.ListN.{length}
+use lib.Seq.{sets}
+use Rattle.answers.specs.Arrays.{lastBytes, put-more}
 use borrow.Author.Needs.{needs}
 use Rattle.answers.proofs.arrays.put.Statement.{statement}
 use Rattle.answers.proofs.arrays.put.Tie as tie
 
 abbrev Inv-loop : tie.InvT-loop
-Inv-loop wire₀ out at from width value rest₀ i₀ wire rest i = length wire ≡ length wire₀
+Inv-loop bytes₀ out at from width value rest₀ i₀ bytes rest i =
+    (length bytes ≡ length bytes₀) × (sets bytes from (lastBytes i rest) ≡ sets bytes₀ from (lastBytes width value))
 
 abbrev μ-loop : tie.MeasureT-loop
-μ-loop wire₀ out at from width value rest₀ i₀ wire rest i = i
+μ-loop bytes₀ out at from width value rest₀ i₀ bytes rest i = i
 
 loop-holds : tie.Need-loop-holds Inv-loop μ-loop
-loop-holds c = refl
+loop-holds c = (refl, refl)
 
 sub-i : tie.Need-sub-i Inv-loop μ-loop
 sub-i c = search needs
@@ -27,7 +32,9 @@ loop-less : tie.Need-loop-less Inv-loop μ-loop
 loop-less c = search needs
 
 loop-again : tie.Need-loop-again Inv-loop μ-loop
-loop-again c = search needs
+loop-again c = let a = c .before .before .before .before .before .before .before .before .args in
+    let l = c .before .before .before .before .before .loop in
+    (search needs, put-more (l .bytes) (a .from) (l .i) (l .rest) (omega arith) (c .before .before .put-byte .ensures) ∙ l .inv .1)
 
 done-requires : tie.Need-done-requires Inv-loop μ-loop
 done-requires c κs = search needs
@@ -39,7 +46,10 @@ same-length-2 : tie.Need-same-length-2 Inv-loop μ-loop
 same-length-2 c = search needs
 
 returns : tie.Need-returns Inv-loop μ-loop
-returns c = search needs
+returns c = let a = c .before .before .before .before .before .before .before .before .args in
+    let l = c .before .before .before .before .before .loop in
+    let e : 0 ≡ l .i = omega arith in
+    ap (λ (i : ℕ). sets (l .bytes) (a .from) (lastBytes i (l .rest))) e ∙ l .inv .1
 
 pub put-spec : {M : Type 1} → statement M
 put-spec =
