@@ -12,7 +12,7 @@ ghost use Rattle.answers.specs.Arrays.{byteFor, filled, lastBytes, dataI
 
 // ---- what fills them
 
-// The byte of a place: by the rule, or the seed everywhere.
+// The byte of a place: by the rule, or the seed itself.
 fn byte_for(ruled: bool, seed: u8, i: usize) -> u8
     ensures { λ r. ⌜ r ≡ byteFor ruled seed i ⌝ }
 {
@@ -22,6 +22,7 @@ fn byte_for(ruled: bool, seed: u8, i: usize) -> u8
     seed
 }
 
+// Every byte.
 pub fn fill(bytes: &mut [u8], out: &mut [u8], at: usize, ruled: bool, seed: u8) -> usize
     ensures { λ _. ⌜ now (bytes .exit) ≡ filled ruled seed (length (now (bytes .entry))) ⌝ }
 {
@@ -117,7 +118,7 @@ pub fn sacked(out: &mut [u8], at: usize, answer: Sacked) -> usize {
 
 // ---- a chunk that is written
 
-// How many bytes were written; these, and up to eight behind them, which should have stayed.
+// How many bytes were written; these, and up to eight behind them, which must have stayed.
 fn laid_out(bytes: &[u8], out: &mut [u8], at: usize, answer: Laid) -> usize {
     match answer {
         Laid::Bytes(count) => {
