@@ -19,6 +19,7 @@ use Rattle.model.specs.declared.Found.{Found}
 use Rattle.model.specs.declared.Listed.{Listed}
 use Rattle.model.specs.declared.Earliest.{Earliest}
 use Rattle.model.specs.declared.Amount.{Amount}
+use Rattle.model.specs.declared.Laid.{Laid}
 use Rattle.model.specs.declared.Counted.{Counted}
 use Rattle.model.specs.declared.Sacked as Model
 use Rattle.model.specs.Lists.{if_then_else_}
@@ -84,6 +85,11 @@ flatMoment a = numberIn (tellsMoment a)
 
 abbrev pub flatAmount : Amount → Reply
 flatAmount a = numberIn (toldAmount a)
+
+-- the bytes that a chunk takes, or the refusal alone
+abbrev pub flatLaid : Laid → Reply
+flatLaid (Laid.Bytes n) = numberIs n
+flatLaid (Laid.Refused n) = onlyNumber n
 
 -- 01's number, and the messages and the bytes
 abbrev pub countsIn : Told → Counts
