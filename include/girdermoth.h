@@ -194,12 +194,6 @@ girdermoth_freed girdermoth_abandon(girdermoth_sender *s, uint32_t tsn);
 
 // ---- the flight
 
-// Writes the DATA chunk of a TSN (RFC 9260, section 3.3.1) to the front of the `room` bytes at `out`, the first time and whenever it is sent again:
-// header, payload, and zeros up to a multiple of four. `value` is how many bytes that is, with `yes` set; those behind them stay. The payload is copied
-// from the caller's `length` bytes, which the entry's `offset` counts from. The chunk's length field is without the zeros; its flags are E 1, B 2 and U 4;
-// its SSN is the entry's, also where U is on. Packets, their common header and their checksum are the host's. Refused, in this order: NO_ENTRY,
-// PAYLOAD_OUTSIDE, OUTPUT_SHORT; a refusal leaves the output.
-girdermoth_reply girdermoth_data_chunk(const girdermoth_sender *s, const uint8_t *bytes, size_t length, uint8_t *out, size_t room, uint32_t tsn);
 // The peer's SACK (RFC 9260, section 3.3.4). The host cuts the packet: the `length` bytes at `chunk` are exactly the chunk, from its type on to its last
 // block or duplicate TSN. Where its cumulative TSN lies from one before the oldest in flight to the newest, modulo 2^32, the entries up to it are
 // acknowledged and popped, then those of its gap blocks are acknowledged; `bytes` is what all of them held, each once, however blocks overlap. Otherwise,
@@ -220,6 +214,14 @@ girdermoth_reply girdermoth_mark_all_to_retransmit(girdermoth_sender *s);
 // lent list of `room` numbers; `value` is how many. Call girdermoth_abandon for each: one gives up the whole message, so that later ones of the list
 // may be abandoned already. What is pending and in flight and the rest of the list stay. Refused: BEYOND_LIMIT, LIST_SHORT.
 girdermoth_reply girdermoth_expired_inflight(girdermoth_sender *s, uint32_t *list, size_t room, uint64_t clock);
+
+// ---- chunks for the wire. Packets, with their common header and their checksum, are the host's
+
+// Writes the DATA chunk of a TSN in flight (RFC 9260, section 3.3.1) to the front of the `room` bytes at `out`, the first time and whenever it is sent
+// again: header, payload, and zeros up to a multiple of four. `value` is how many bytes that is, with `yes` set; those behind them stay. The payload is
+// copied from the caller's `length` bytes, which the entry's `offset` counts from. The chunk's length field is without the zeros; its flags are E 1, B 2
+// and U 4; its SSN is the entry's, also where U is on. Refused, in this order: NO_ENTRY, PAYLOAD_OUTSIDE, OUTPUT_SHORT; a refusal leaves the output.
+girdermoth_reply girdermoth_data_chunk(const girdermoth_sender *s, const uint8_t *bytes, size_t length, uint8_t *out, size_t room, uint32_t tsn);
 
 // ---- questions. None is refused but where it says so
 

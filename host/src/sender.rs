@@ -212,40 +212,6 @@ impl Sender {
 
     // ---- the flight
 
-    /// Writes the DATA chunk of a TSN in flight (RFC 9260, section 3.3.1), the first time and whenever it is sent again: its header, its payload, and
-    /// zeros up to a multiple of four. They are written to the front of `out`, and answered as the part of it that they fill; the rest of `out` stays,
-    /// and so does the sender. The payload is copied from `bytes`, which the offset of [`write`](Sender::write) counts from. The packet around the
-    /// chunk, with its common header and its checksum, is the host's.
-    ///
-    /// Refused, in this order: [`NoEntry`](Refusal::NoEntry), [`PayloadOutside`](Refusal::PayloadOutside), [`OutputShort`](Refusal::OutputShort); then
-    /// all of `out` stays.
-    ///
-    /// ```
-    /// use girdermoth::{PayloadProtocolIdentifier, Refusal, Sender};
-    ///
-    /// # fn main() -> Result<(), Refusal> {
-    /// let store = b"..hello.."; // the host's bytes, of which a message is a part
-    /// let mut sender = Sender::new(4_294_967_295, 0);
-    /// sender.open_stream(7, 1200)?;
-    /// sender.write(7, PayloadProtocolIdentifier::STRING, 2, 5)?;
-    /// let chunk = sender.send_next(0)?.expect("it is pending");
-    ///
-    /// let mut packet = [0; 1212];
-    /// let data = sender.data_chunk(chunk.tsn, store, &mut packet[12..])?; // behind the common header
-    /// assert_eq!(data[..8], [0, 3, 0, 21, 255, 255, 255, 255]); // DATA, first and last fragment, 16 + 5 bytes, TSN
-    /// assert_eq!(data[8..16], [0, 7, 0, 0, 0, 0, 0, 51]); // stream, SSN, payload type
-    /// assert_eq!(data[16..], *b"hello\0\0\0");
-    ///
-    /// sender.mark_as_acked(chunk.tsn);
-    /// assert_eq!(sender.data_chunk(chunk.tsn, store, &mut packet[12..]), Err(Refusal::NoEntry));
-    /// # Ok(())
-    /// # }
-    /// ```
-    pub fn data_chunk<'a>(&self, tsn: u32, bytes: &[u8], out: &'a mut [u8]) -> Result<&'a [u8], Refusal> {
-        let written = answer(sys::data_chunk(&self.0, bytes, out, tsn))?.value;
-        Ok(&out[..written as usize])
-    }
-
     /// Reads a SACK of the peer's (RFC 9260, section 3.3.4). The lent bytes are exactly the chunk, which the host cuts from its packet. The entries up
     /// to its cumulative TSN are acknowledged and popped, then those of its gap blocks are acknowledged. Nothing where it is stale: its cumulative TSN
     /// does not lie from one before the oldest in flight to the newest, or nothing is in flight. Then nothing changes.
@@ -283,6 +249,42 @@ impl Sender {
     pub fn expired_inflight<'a>(&mut self, now: u64, list: &'a mut [u32]) -> Result<&'a [u32], Refusal> {
         let count = answer(sys::expired_inflight(&mut self.0, list, now))?.value;
         Ok(&list[..count as usize])
+    }
+
+    // ---- chunks for the wire
+
+    /// Writes the DATA chunk of a TSN in flight (RFC 9260, section 3.3.1), the first time and whenever it is sent again: its header, its payload, and
+    /// zeros up to a multiple of four. They are written to the front of `out`, and answered as the part of it that they fill; the rest of `out` stays,
+    /// and so does the sender. The payload is copied from `bytes`, which the offset of [`write`](Sender::write) counts from. The packet around the
+    /// chunk, with its common header and its checksum, is the host's.
+    ///
+    /// Refused, in this order: [`NoEntry`](Refusal::NoEntry), [`PayloadOutside`](Refusal::PayloadOutside), [`OutputShort`](Refusal::OutputShort); then
+    /// all of `out` stays.
+    ///
+    /// ```
+    /// use girdermoth::{PayloadProtocolIdentifier, Refusal, Sender};
+    ///
+    /// # fn main() -> Result<(), Refusal> {
+    /// let store = b"..hello.."; // the host's bytes, of which a message is a part
+    /// let mut sender = Sender::new(4_294_967_295, 0);
+    /// sender.open_stream(7, 1200)?;
+    /// sender.write(7, PayloadProtocolIdentifier::STRING, 2, 5)?;
+    /// let chunk = sender.send_next(0)?.expect("it is pending");
+    ///
+    /// let mut packet = [0; 1212];
+    /// let data = sender.data_chunk(chunk.tsn, store, &mut packet[12..])?; // behind the common header
+    /// assert_eq!(data[..8], [0, 3, 0, 21, 255, 255, 255, 255]); // DATA, first and last fragment, 16 + 5 bytes, TSN
+    /// assert_eq!(data[8..16], [0, 7, 0, 0, 0, 0, 0, 51]); // stream, SSN, payload type
+    /// assert_eq!(data[16..], *b"hello\0\0\0");
+    ///
+    /// sender.mark_as_acked(chunk.tsn);
+    /// assert_eq!(sender.data_chunk(chunk.tsn, store, &mut packet[12..]), Err(Refusal::NoEntry));
+    /// # Ok(())
+    /// # }
+    /// ```
+    pub fn data_chunk<'a>(&self, tsn: u32, bytes: &[u8], out: &'a mut [u8]) -> Result<&'a [u8], Refusal> {
+        let written = answer(sys::data_chunk(&self.0, bytes, out, tsn))?.value;
+        Ok(&out[..written as usize])
     }
 
     // ---- questions
