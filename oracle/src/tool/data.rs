@@ -39,9 +39,12 @@ impl Generator {
         self.say(format_args!("write {sid} {typ} {offset} {length}"));
     }
 
-    /// One entry or some beside each other.
+    /// One entry or some beside each other, mostly from one on that has bytes.
     pub fn data(&mut self) {
         let tsn = if self.random.one_in(8) { self.tsn() } else { self.live_tsn() };
+        if self.oracle.held(tsn).is_none() && !self.random.one_in(4) {
+            return;
+        }
         for i in 0..self.random.pick(&[1, 1, 1, 2, 4]) {
             self.data_of(tsn.wrapping_add(i));
         }
@@ -81,7 +84,7 @@ impl Generator {
         if self.random.one_in(2) {
             self.data();
         }
-        if !self.random.one_in(6) {
+        if !self.random.one_in(12) {
             let lent = self.random.pick(&[LENT, LENT, LENT, LENT, BYTES, 1 << 32, u64::MAX]);
             self.say(format_args!("lend {lent}"));
         }
@@ -89,7 +92,7 @@ impl Generator {
 
     /// A fresh sender, which touches neither the wire nor the memory, nor how much of it is lent.
     pub fn fresh_sender(&mut self) {
-        let (tsn, lent) = (self.first_tsn(), self.random.pick(&[100, 1000, LENT, BYTES]));
+        let (tsn, lent) = (self.first_tsn(), self.random.pick(&[1000, LENT - 1, BYTES, BYTES]));
         self.say(format_args!("lend {lent}"));
         self.say(format_args!("sender {tsn} 0"));
         for _ in 0..3 {

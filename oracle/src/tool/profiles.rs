@@ -258,7 +258,7 @@ pub const PROFILES: [&Profile; 15] = [
             (6, Generator::send),
             (6, Generator::oldest_delivered),
             (2, Generator::sack),
-            (1, Generator::data),
+            (2, Generator::data),
             (1, Generator::mark_all),
             (1, Generator::list_expired),
             (1, Generator::question),
