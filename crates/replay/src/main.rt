@@ -11,11 +11,13 @@ use sender_head::Head;
 use timer::Maximum;
 use timer::TimerTable;
 
-// All that a script's lines change, but the cells and the wire; `at` is the place behind the answers so far.
+// All that a script's lines change, but the cells, the wire and the memory; `lent` bytes of the memory are lent, and `at` is the place behind the
+// answers so far.
 struct World {
     head: Head,
     table: TimerTable,
     manager: RtoManager,
+    lent: u64,
     at: usize,
 }
 
@@ -86,23 +88,47 @@ fn sacked(
     at: usize,
     length: u64,
 ) -> Sender {
-    let n = answers::wire::place_in(wire, length);
+    let n = answers::arrays::place_in(wire, length);
     let after = sender_calls::flight::sack(h, cells, &wire[0..n]);
     let head = after.head;
     let answer = after.answer;
     Sender {
         head: head,
-        at: answers::wire::sacked(out, at, answer),
+        at: answers::arrays::sacked(out, at, answer),
     }
 }
 
-// What is asked of the sender alone, what fills or shows the wire, and a line that is no call.
+// What fills or shows the script's arrays.
+fn of_arrays(
+    wire: &mut [u8],
+    memory: &mut [u8],
+    out: &mut [u8],
+    at: usize,
+    command: Command,
+) -> usize {
+    match command {
+        Command::Wipe { byte } => answers::arrays::fill(wire, out, at, false, byte),
+        Command::Put {
+            at: from,
+            width,
+            value,
+        } => answers::arrays::put(wire, out, at, from, width, value),
+        Command::Look { at: from, count } => answers::arrays::look(wire, out, at, from, count),
+        Command::Fill { seed } => answers::arrays::fill(memory, out, at, true, seed),
+        Command::Read { at: from, count } => answers::arrays::look(memory, out, at, from, count),
+        _ => at,
+    }
+}
+
+// What is asked of the sender alone, what is of the script's arrays, and a line that is no call.
 fn asked(
     h: Head,
     cells: &mut [u64],
     wire: &mut [u8],
+    memory: &mut [u8],
     out: &mut [u8],
     at: usize,
+    lent: u64,
     command: Command,
 ) -> usize {
     match command {
@@ -122,14 +148,10 @@ fn asked(
         Command::SetBuffered { identifier, amount } => {
             answers::sender::set_buffered(h, cells, out, at, identifier, amount)
         }
-        Command::Wipe { byte } => answers::wire::wipe(wire, out, at, byte),
-        Command::Put {
-            at: from,
-            width,
-            value,
-        } => answers::wire::put(wire, out, at, from, width, value),
-        Command::Look { at: from, count } => answers::wire::look(wire, out, at, from, count),
-        _ => at,
+        Command::Data { tsn, room } => {
+            answers::arrays::data(h, cells, wire, memory, out, at, lent, tsn, room)
+        }
+        _ => of_arrays(wire, memory, out, at, command),
     }
 }
 
@@ -137,8 +159,10 @@ fn sender_call(
     h: Head,
     cells: &mut [u64],
     wire: &mut [u8],
+    memory: &mut [u8],
     out: &mut [u8],
     at: usize,
+    lent: u64,
     command: Command,
 ) -> Sender {
     match command {
@@ -150,42 +174,33 @@ fn sender_call(
         Command::Sack { length } => sacked(h, cells, wire, out, at, length),
         _ => Sender {
             head: h,
-            at: asked(h, cells, wire, out, at, command),
+            at: asked(h, cells, wire, memory, out, at, lent, command),
         },
     }
 }
 
-fn with_head(world: World, head: Head, at: usize) -> World {
-    let table = world.table;
-    let manager = world.manager;
-    World {
-        head: head,
-        table: table,
-        manager: manager,
-        at: at,
-    }
+fn with_head(mut world: World, head: Head, at: usize) -> World {
+    world.head = head;
+    world.at = at;
+    world
 }
 
-fn with_table(world: World, table: TimerTable, at: usize) -> World {
-    let head = world.head;
-    let manager = world.manager;
-    World {
-        head: head,
-        table: table,
-        manager: manager,
-        at: at,
-    }
+fn with_table(mut world: World, table: TimerTable, at: usize) -> World {
+    world.table = table;
+    world.at = at;
+    world
 }
 
-fn with_manager(world: World, manager: RtoManager, at: usize) -> World {
-    let head = world.head;
-    let table = world.table;
-    World {
-        head: head,
-        table: table,
-        manager: manager,
-        at: at,
-    }
+fn with_manager(mut world: World, manager: RtoManager, at: usize) -> World {
+    world.manager = manager;
+    world.at = at;
+    world
+}
+
+fn with_lent(mut world: World, lent: u64, at: usize) -> World {
+    world.lent = lent;
+    world.at = at;
+    world
 }
 
 fn timers_call(world: World, out: &mut [u8], call: TimerCall) -> World {
@@ -206,6 +221,7 @@ fn run(
     world: World,
     cells: &mut [u64],
     wire: &mut [u8],
+    memory: &mut [u8],
     out: &mut [u8],
     command: Command,
 ) -> World {
@@ -221,8 +237,21 @@ fn run(
             let place = state(world, cells, out, sender, timers, rto);
             with_head(world, head, place)
         }
+        Command::Lend { count } => {
+            let place = lines::done(out, world.at);
+            with_lent(world, count, place)
+        }
         _ => {
-            let after = sender_call(head, cells, wire, out, world.at, command);
+            let after = sender_call(
+                head,
+                cells,
+                wire,
+                memory,
+                out,
+                world.at,
+                world.lent,
+                command,
+            );
             let changed = after.head;
             with_head(world, changed, after.at)
         }
@@ -241,6 +270,7 @@ fn block(
     reading: Reading,
     cells: &mut [u64],
     wire: &mut [u8],
+    memory: &mut [u8],
     out: &mut [u8],
     bytes: &[u8],
 ) -> Reading {
@@ -250,7 +280,7 @@ fn block(
     while i < bytes.len() {
         let byte = bytes[i];
         if byte == 10 {
-            world = run(world, cells, wire, out, script::finish(line));
+            world = run(world, cells, wire, memory, out, script::finish(line));
             line = script::start();
         } else {
             line = script::feed(line, byte);
@@ -271,6 +301,7 @@ fn fresh() -> World {
         head: sender_head::new(0, 0),
         table: table,
         manager: fresh_estimator(),
+        lent: 65_536,
         at: 0,
     }
 }
@@ -302,6 +333,7 @@ fn read_some(
     reading: Reading,
     cells: &mut [u64],
     wire: &mut [u8],
+    memory: &mut [u8],
     out: &mut [u8],
     input: &mut [u8],
 ) -> Turn {
@@ -313,7 +345,7 @@ fn read_some(
         };
     }
     let n = io::count(got, input);
-    let after = block(reading, cells, wire, out, &input[..n]);
+    let after = block(reading, cells, wire, memory, out, &input[..n]);
     Turn {
         reading: after,
         ended: false,
@@ -321,22 +353,34 @@ fn read_some(
 }
 
 // The last line may have no end of its own.
-fn last_line(reading: Reading, cells: &mut [u64], wire: &mut [u8], out: &mut [u8]) {
+fn last_line(
+    reading: Reading,
+    cells: &mut [u64],
+    wire: &mut [u8],
+    memory: &mut [u8],
+    out: &mut [u8],
+) {
     let line = reading.line;
     let world = reading.world;
-    let after = run(world, cells, wire, out, script::finish(line));
+    let after = run(world, cells, wire, memory, out, script::finish(line));
     lines::flush(out, after.at);
 }
 
 // A proved loop has to end, and nothing says that the input does: the blocks are counted down from a number that no run uses up.
-fn all(cells: &mut [u64], wire: &mut [u8], out: &mut [u8], input: &mut [u8]) -> Reading {
+fn all(
+    cells: &mut [u64],
+    wire: &mut [u8],
+    memory: &mut [u8],
+    out: &mut [u8],
+    input: &mut [u8],
+) -> Reading {
     let mut reading = Reading {
         world: fresh(),
         line: script::start(),
     };
     let mut blocks = u64::MAX;
     while blocks > 0 {
-        let next = read_some(reading, cells, wire, out, input);
+        let next = read_some(reading, cells, wire, memory, out, input);
         reading = next.reading;
         if next.ended {
             return reading;
@@ -349,8 +393,9 @@ fn all(cells: &mut [u64], wire: &mut [u8], out: &mut [u8], input: &mut [u8]) -> 
 fn main() {
     let mut cells = [0u64; 6656];
     let mut wire = [0u8; 65_544];
+    let mut memory = [0u8; 65_544];
     let mut input = io::large_buffer();
     let mut out = io::large_buffer();
-    let reading = all(&mut cells, &mut wire, &mut out, &mut input);
-    last_line(reading, &mut cells, &mut wire, &mut out);
+    let reading = all(&mut cells, &mut wire, &mut memory, &mut out, &mut input);
+    last_line(reading, &mut cells, &mut wire, &mut memory, &mut out);
 }

@@ -14,7 +14,7 @@ shows-sender = (refl, refl, refl, refl, refl, refl, refl, refl, refl, refl, refl
 
 pub shows-own : ShowsOwn
 unfolding table rowOf codeOf mostOf numberOf dashOf belowOf figureOf partsOf argumentOf joined beforeOf putOf ownOf timerOf maximumOf momentOf clockOf estimateOf madeOf commandIn
-shows-own = (refl, refl, refl, refl, refl, refl, refl, refl, refl, refl, refl, refl, refl, refl, refl, refl, refl, refl, refl, refl)
+shows-own = (refl, refl, refl, refl, refl, refl, refl, refl, refl, refl, refl, refl, refl, refl, refl, refl, refl, refl, refl, refl, refl, refl, refl, refl)
 
 pub shows-clocks : ShowsClocks
 unfolding table rowOf codeOf mostOf numberOf dashOf belowOf figureOf partsOf argumentOf joined beforeOf putOf ownOf timerOf maximumOf momentOf clockOf estimateOf madeOf commandIn
@@ -22,7 +22,7 @@ shows-clocks = (refl, refl, refl, refl, refl, refl, refl, refl, refl, refl, refl
 
 pub shows-bad : ShowsBad
 unfolding table rowOf codeOf mostOf numberOf dashOf belowOf figureOf partsOf argumentOf joined beforeOf putOf ownOf timerOf maximumOf momentOf clockOf estimateOf madeOf commandIn
-shows-bad = (refl, refl, refl, refl, refl, refl, refl, refl, refl, refl, refl, refl, refl, refl, refl, refl, refl, refl, refl, refl, refl, refl)
+shows-bad = (refl, refl, refl, refl, refl, refl, refl, refl, refl, refl, refl, refl, refl, refl, refl, refl, refl, refl, refl, refl, refl, refl, refl, refl, refl, refl)
 
 pub rows-apart : RowsApart
 unfolding table

@@ -39,6 +39,10 @@ owns a b c =
     ∷ putOf a b c
     ∷ Command.Look a b
     ∷ Command.Sack a
+    ∷ Command.Fill (a % 2 ^ 8)
+    ∷ Command.Lend a
+    ∷ Command.Read a b
+    ∷ Command.Data (a % 2 ^ 32) b
     ∷ []
 
 unfoldable pub ownOf : (row a b c : ℕ) → Command

@@ -84,6 +84,10 @@ ShowsOwn =
     × Line "put 0 8 3" (Command.Put 0 8 3)
     × Line "look 0 18446744073709551615" (Command.Look 0 18446744073709551615)
     × Line "sack 20" (Command.Sack 20)
+    × Line "fill 255" (Command.Fill 255)
+    × Line "lend 18446744073709551615" (Command.Lend 18446744073709551615)
+    × Line "read 65544 1" (Command.Read 65544 1)
+    × Line "data 4294967295 20" (Command.Data 4294967295 20)
     × Line " # nothing" Command.Blank
 
 -- the timers' and the estimator's
@@ -129,6 +133,10 @@ ShowsBad =
     × Bad "put 0 0 3"
     × Bad "put 0 9 3"
     × Bad "sack"
+    × Bad "fill 256"
+    × Bad "lend -"
+    × Bad "read 0"
+    × Bad "data 4294967296 20"
     × Bad "send -1"
     × Bad "s"
     × Bad "1"

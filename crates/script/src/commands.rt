@@ -12,7 +12,8 @@ ghost use mathlib.Core.Path.{_≡_};
 ghost use Rattle.script.specs.Commands.{putOf, ownOf, timerOf, maximumOf, momentOf, clockOf, estimateOf, madeOf, commandIn};
 
 // What a line is; `SetBuffered` is the script's own. `Blank` has no word and gets no answer; `Bad` is no call. `List` asks for the expired TSNs; `ListWithin` names the room of that list.
-// `Wipe`, `Put` and `Look` are of the wire, the script's array of bytes; `Sack` reads one from its front.
+// `Wipe`, `Put` and `Look` are of the wire, an array of bytes of the script's; `Sack` reads one from its front. `Fill` and `Read` are of the memory,
+// another; `Lend` says how much of it is lent, and `Data` writes a chunk to the wire's front whose payload is there.
 pub enum Command {
     Blank,
     Bad,
@@ -50,6 +51,20 @@ pub enum Command {
     },
     Sack {
         length: u64,
+    },
+    Fill {
+        seed: u8,
+    },
+    Lend {
+        count: u64,
+    },
+    Read {
+        at: u64,
+        count: u64,
+    },
+    Data {
+        tsn: u32,
+        room: u64,
     },
     Clock(TimerCall),
     Estimate(RtoCall),
@@ -112,6 +127,15 @@ fn own(row: u64, a: u64, b: u64, c: u64) -> Command
         9 => put(a, b, c),
         10 => Command::Look { at: a, count: b },
         11 => Command::Sack { length: a },
+        12 => Command::Fill {
+            seed: (a % 256) as u8,
+        },
+        13 => Command::Lend { count: a },
+        14 => Command::Read { at: a, count: b },
+        15 => Command::Data {
+            tsn: (a % 4_294_967_296) as u32,
+            room: b,
+        },
         _ => Command::Bad,
     }
 }

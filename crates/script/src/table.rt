@@ -28,7 +28,7 @@ pub const SIGNED: u64 = 8;
 
 pub const OPTIONAL: u64 = 9;
 
-const ROWS: usize = 57;
+const ROWS: usize = 61;
 
 const TABLE: [Row; ROWS] = [
     // the sender's
@@ -67,6 +67,10 @@ const TABLE: [Row; ROWS] = [
     Row(0o20_25_24, 4, LONG, LONG, LONG, NONE, 1_009), // put
     Row(0o14_17_17_13, 3, LONG, LONG, NONE, NONE, 1_010), // look
     Row(0o23_01_03_13, 2, LONG, NONE, NONE, NONE, 1_011), // sack
+    Row(0o06_11_14_14, 2, OCTET, NONE, NONE, NONE, 1_012), // fill
+    Row(0o14_05_16_04, 2, LONG, NONE, NONE, NONE, 1_013), // lend
+    Row(0o22_05_01_04, 3, LONG, LONG, NONE, NONE, 1_014), // read
+    Row(0o04_01_24_01, 3, MIDDLE, LONG, NONE, NONE, 1_015), // data
     // the timers'
     Row(
         0o24_11_15_05_22_23,

@@ -4,8 +4,8 @@ use Prim.Native.Nat.{_-_, _≤_}
 use native.Mathlib.Omega.{arith}
 use lib.ListN.{length}
 use borrow.Author.Needs.{needs}
-use Rattle.answers.proofs.wire.hexadecimal.Statement.{statement}
-use Rattle.answers.proofs.wire.hexadecimal.Tie as tie
+use Rattle.answers.proofs.arrays.hexadecimal.Statement.{statement}
+use Rattle.answers.proofs.arrays.hexadecimal.Tie as tie
 
 abbrev Inv-loop : tie.InvT-loop
 Inv-loop out₀ at bytes place₀ i₀ out place i = (i ≤ length bytes) × (length out ≡ length out₀)
