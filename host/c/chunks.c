@@ -41,7 +41,7 @@ int main(int argc, char **argv) {
         int numbers = sscanf(line, "%11s %lu %lu %lu %lu", word, n, n + 1, n + 2, n + 3) - 1;
         if (numbers == 1 && !strcmp(word, "sender")) girdermoth_init(&s, (uint32_t)n[0], 0);
         else if (numbers == 2 && !strcmp(word, "open")) done(girdermoth_open_stream(&s, (uint16_t)n[0], (uint32_t)n[1]).refusal, "an opening");
-        else if (numbers == 2 && !strcmp(word, "unordered")) done(girdermoth_set_reliability_params(&s, (uint16_t)n[0], n[1], GIRDERMOTH_RELIABLE, 0).refusal, "a setting");
+        else if (numbers == 2 && !strcmp(word, "unordered")) done(girdermoth_set_reliability_params(&s, (uint16_t)n[0], n[1], 0, 0).refusal, "a setting");
         else if (numbers == 4 && !strcmp(word, "write")) message((uint16_t)n[0], (uint32_t)n[1], n[2], n[3], true);
         else if (numbers == 2 && !strcmp(word, "pass")) while (n[1]--) message((uint16_t)n[0], 53, 0, 1, false);
         else { fprintf(stderr, "chunks: what is %s", line); return 2; }
