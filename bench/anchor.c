@@ -426,6 +426,35 @@ fragment anchor_get(const sender *s, uint32_t tsn) {
     return fragment_of(tsn, flying((sender *)s, i));
 }
 
+static inline uint8_t *put_two(uint8_t *at, word value) {
+    *at++ = (uint8_t)(value >> 8);
+    *at++ = (uint8_t)value;
+    return at;
+}
+
+static inline uint8_t *put_four(uint8_t *at, word value) { return put_two(put_two(at, value >> 16 & 0xffff), value & 0xffff); }
+
+reply anchor_data_chunk(const sender *s, const uint8_t *bytes, size_t length, uint8_t *out, size_t room, uint32_t tsn) {
+    uint32_t i = tsn - s->head.oldest;
+    if (i >= s->head.flight_len) return refused(GIRDERMOTH_NO_ENTRY);
+    const word *slot = flying((sender *)s, i);
+    word marks = slot[MARKS], payload = (uint32_t)slot[SIZES], padded = (payload + 3) / 4 * 4;
+    if (marks & (ACKED | ABANDONED)) return refused(GIRDERMOTH_NO_ENTRY);
+    if (slot[OFFSET] + payload > length) return refused(GIRDERMOTH_PAYLOAD_OUTSIDE);
+    if (room < 16 + padded) return refused(GIRDERMOTH_OUTPUT_SHORT);
+    uint8_t *at = out;
+    *at++ = 0;
+    *at++ = (marks & ENDING ? 1 : 0) | (marks & BEGINNING ? 2 : 0) | (marks & UNORDERED ? 4 : 0);
+    at = put_two(at, 16 + payload);
+    at = put_four(at, tsn);
+    at = put_two(at, marks & 0xffff);
+    at = put_two(at, (marks & SSN) >> SSN_AT);
+    at = put_four(at, (uint32_t)slot[TYPES]);
+    memcpy(at, bytes + slot[OFFSET], payload);
+    memset(at + payload, 0, padded - payload);
+    return number(16 + padded);
+}
+
 reply anchor_pending_len(const sender *s) { return number(s->head.unordered_len + s->head.ordered_len); }
 reply anchor_inflight_len(const sender *s) { return number(s->head.flight_len); }
 

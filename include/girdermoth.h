@@ -3,7 +3,7 @@
 // A sender is one struct that the caller owns: any memory of its size and alignment. No call allocates, blocks, keeps a pointer or touches
 // anything but what is lent to it. Every call is proved to return and to do what docs/CALLS.md says, whatever the sender's bytes are: but
 // only girdermoth_init makes a sender that means something. A `const girdermoth_sender *` is only read. Calls on one sender must not
-// overlap in time; a lent list or chunk must not lie within the sender.
+// overlap in time. Nor must what is lent to one call: no list, chunk or output lies within the sender, and no output within the bytes that are read.
 //
 // A reply has a refusal: 0 is done, any other is one of the numbers below. A refused call changes nothing, and all else in its reply is 0.
 //
@@ -11,8 +11,9 @@
 // such a host):
 //   1. girdermoth_start_timed_messages;
 //   2. girdermoth_expired_inflight, and girdermoth_abandon for each TSN of its list that is not abandoned;
-//   3. what is to be sent again, by girdermoth_get;
-//   4. before EACH new chunk girdermoth_expire_pending and girdermoth_expire_pending_tail until neither frees anything; then girdermoth_send_next;
+//   3. what is to be sent again, by girdermoth_get, as girdermoth_data_chunk writes it;
+//   4. before EACH new chunk girdermoth_expire_pending and girdermoth_expire_pending_tail until neither frees anything; then girdermoth_send_next, and
+//      girdermoth_data_chunk for what it gave out;
 //   5. FORWARD-TSN for what is abandoned at the front of the flight;
 //   6. the timer T3-RTX runs while anything is in flight;
 //   7. wait until the earlier of girdermoth_next_deadline and girdermoth_timers_next_timeout, a packet or a write.
@@ -40,20 +41,23 @@ extern "C" {
 
 enum {
     GIRDERMOTH_DONE = 0,
-    GIRDERMOTH_BEYOND_LIMIT = 1,   // a number is beyond its limit, and no other line names it
-    GIRDERMOTH_BAD_BOUNDS = 2,     // the payload maximum is outside 1 to 65,515, or the RTO minimum is above the maximum
-    GIRDERMOTH_NOT_OPEN = 3,       // the stream is not open
-    GIRDERMOTH_ALREADY_OPEN = 4,   // the stream is already open
-    GIRDERMOTH_STREAMS_FULL = 5,   // 64 streams are open
-    GIRDERMOTH_MESSAGE_LONG = 6,   // the message is over 65,536 bytes
-    GIRDERMOTH_BUFFER_FULL = 7,    // the buffered amount would pass 4,294,967,295
-    GIRDERMOTH_RING_FULL = 8,      // the message's ring lacks room for all its fragments
-    GIRDERMOTH_NUMBERS_SPENT = 9,  // the message has a fragment, and the next number is 2^64 - 1
-    GIRDERMOTH_FLIGHT_FULL = 10,   // the flight holds 255 or more entries, and a chunk is pending
-    GIRDERMOTH_LIST_SHORT = 11,    // the lent list is shorter than the list of expired TSNs
-    GIRDERMOTH_COUNT_FULL = 12,    // an expiry that would be counted finds the timer's count at 4,294,967,295
-    GIRDERMOTH_BAD_SACK = 13,      // the lent bytes are no SACK: under 16, of another type, or not as long as their length field and counts say
-    GIRDERMOTH_BAD_BLOCK = 14      // a gap block starts at 0, starts behind its end, or ends beyond the newest entry in flight
+    GIRDERMOTH_BEYOND_LIMIT = 1,      // a number is beyond its limit, and no other line names it
+    GIRDERMOTH_BAD_BOUNDS = 2,        // the payload maximum is outside 1 to 65,515, or the RTO minimum is above the maximum
+    GIRDERMOTH_NOT_OPEN = 3,          // the stream is not open
+    GIRDERMOTH_ALREADY_OPEN = 4,      // the stream is already open
+    GIRDERMOTH_STREAMS_FULL = 5,      // 64 streams are open
+    GIRDERMOTH_MESSAGE_LONG = 6,      // the message is over 65,536 bytes
+    GIRDERMOTH_BUFFER_FULL = 7,       // the buffered amount would pass 4,294,967,295
+    GIRDERMOTH_RING_FULL = 8,         // the message's ring lacks room for all its fragments
+    GIRDERMOTH_NUMBERS_SPENT = 9,     // the message has a fragment, and the next number is 2^64 - 1
+    GIRDERMOTH_FLIGHT_FULL = 10,      // the flight holds 255 or more entries, and a chunk is pending
+    GIRDERMOTH_LIST_SHORT = 11,       // the lent list is shorter than the list of expired TSNs
+    GIRDERMOTH_COUNT_FULL = 12,       // an expiry that would be counted finds the timer's count at 4,294,967,295
+    GIRDERMOTH_BAD_SACK = 13,         // the lent bytes are no SACK: under 16, of another type, or not as long as their length field and counts say
+    GIRDERMOTH_BAD_BLOCK = 14,        // a gap block starts at 0, starts behind its end, or ends beyond the newest entry in flight
+    GIRDERMOTH_NO_ENTRY = 15,         // no entry in flight has the TSN, or the one that has it is acknowledged or abandoned, as a terminator is
+    GIRDERMOTH_PAYLOAD_OUTSIDE = 16,  // the entry's payload ends beyond the lent bytes
+    GIRDERMOTH_OUTPUT_SHORT = 17      // the lent output is shorter than the chunk with its padding
 };
 
 // Kinds of reliability; any other is as GIRDERMOTH_RELIABLE. The limit of REXMIT is the host's to keep: the sender does not know what is sent again.
@@ -211,9 +215,17 @@ girdermoth_reply girdermoth_mark_all_to_retransmit(girdermoth_sender *s);
 // may be abandoned already. What is pending and in flight and the rest of the list stay. Refused: BEYOND_LIMIT, LIST_SHORT.
 girdermoth_reply girdermoth_expired_inflight(girdermoth_sender *s, uint32_t *list, size_t room, uint64_t clock);
 
+// ---- chunks for the wire. Packets, with their common header and their checksum, are the host's
+
+// Writes the DATA chunk of a TSN in flight (RFC 9260, section 3.3.1) to the front of the `room` bytes at `out`, the first time and whenever it is sent
+// again: header, payload, and zeros up to a multiple of four. `value` is how many bytes that is, with `yes` set; those behind them stay. The payload is
+// copied from the caller's `length` bytes, which the entry's `offset` counts from. The chunk's length field is without the zeros; its flags are E 1, B 2
+// and U 4; its SSN is the entry's, also where U is on. Refused, in this order: NO_ENTRY, PAYLOAD_OUTSIDE, OUTPUT_SHORT; a refusal leaves the output.
+girdermoth_reply girdermoth_data_chunk(const girdermoth_sender *s, const uint8_t *bytes, size_t length, uint8_t *out, size_t room, uint32_t tsn);
+
 // ---- questions. None is refused but where it says so
 
-// The entry of a TSN in flight. The host sends again by it, and finds by it, from the oldest TSN on, what FORWARD-TSN is to tell.
+// The entry of a TSN in flight. The host sees by it what is to be sent again, and finds by it, from the oldest TSN on, what FORWARD-TSN is to tell.
 girdermoth_fragment girdermoth_get(const girdermoth_sender *s, uint32_t tsn);
 // `yes` for a TSN in flight that is abandoned.
 girdermoth_reply girdermoth_is_abandoned(const girdermoth_sender *s, uint32_t tsn);

@@ -107,34 +107,105 @@ def params(kinds):
 def lifes(ps, first, ch):
     return nest([first] + [ch + p.s for p in ps if p.kind != 'x'])
 
+# ---- what a walk does with its further parameters `ps`: `sl` are the slices among them, `ms` those lent for writing. tools/mklook.py does the same
+
+def slices(ps): return [p for p in ps if p.kind != 'x'], [p for p in ps if p.kind == 'm']
+def den(p): return p.den if p.kind == 'x' else 'RefT (List ℕ)'
+def told(kinds): return ', '.join({'x': 'a number', 'm': 'a slice lent for writing', 's': 'a slice lent for reading'}[c] for c in kinds)
+
+# a slice lent for writing is lent on through two locals, of which `mloc` has the numbers: their types, and the statements
+def on_types(ms): return [t for p in ms for t in ('(tyRef erased mut (tyInt w%s))' % p.s, '(sliceTy (tyRef erased mut (tyInt w%s)))' % p.s)]
+def on_code(ms, mloc):
+    for p in ms:
+        a_, c_ = mloc[p.i]
+        yield 'assign (place %d []) (addrOf (place %d (field 0 ∷ deref (tyInt w%s) ∷ [])))' % (a_, p.i + 1, p.s)
+        yield 'assign (place %d []) (aggregate (copy (place %d []) ∷ copy (place %d (field 1 ∷ [])) ∷ []))' % (c_, a_, p.i + 1)
+def on_walk(c, ms, mloc):
+    for p in ms:
+        a_, c_ = mloc[p.i]; lp = c.at('L%d' % (p.i + 1))
+        c.say('assigns ! (addr ! (from ! (fld ! refl (hop ! (look-in ! %d (sub ! 0 refl (whole !))) (stop !))))) (from ! (stop !)) (init ! %d refl (tt, tt)) $' % (lp, c.at('L%d' % a_)), True)
+        c.say('assigns ! (agg ! (and-then ! (load ! (from ! (stop !)) (look ! %d refl)) (and-then ! (load ! (from ! (fld ! refl (stop !))) (look-in ! %d (sub ! 1 refl (whole !)))) (no-more !)))) (from ! (stop !)) (init ! %d refl (tt, (tt, (record { fits = rm%s .0 }, tt)))) $' % (c.at('L%d' % a_), lp, c.at('L%d' % c_), p.s), True)
+
+# the tokens of the lifetimes: as one item, apart, and together in front of the rest
+def tokens(sl, first):
+    t = '‵ ftrue'
+    for p in reversed(sl): t = '(‵ (flft κ%s q%s) ⊛ %s)' % (p.s, p.s, t)
+    return '(%s ⊛ %s)' % (first, t)
+def split_tokens(c, sl, first, end):
+    c.split('T', first, 'T' if sl else end)
+    for p in sl: c.split('T', 'tok' + p.s, 'T' if p is not sl[-1] else end)
+def frame_tokens(c, sl, first):
+    c.push('nothing !', 'ft'); cur = 'ft'
+    for p in reversed(sl): c.join('tok' + p.s, cur, 'T' + p.s); cur = 'T' + p.s
+    c.join(first, cur, 'T'); c.say('frame ! $'); c.repl(1)
+
+# what is owned of the parameters: the slices apart, a copy of one lent for reading beside it; and all together, where `slice` labels a slice
+def split_owned(c, ps, sl):
+    for p in ps:
+        if not sl or p.i > sl[-1].i: break
+        if p.kind == 'x': c.fsplit('owns', '.x', 'owns')
+        else:
+            c.fsplit('owns', 'sl' + p.s, 'owns')
+            if p.kind == 's':
+                c.say('use1 W (‵ (%s .own s%s (slice-vals s%s)) ⊛ ‵ (%s .own s%s (slice-vals s%s))) (shr-slice-copy 𝓤 H A W (named %d) κ%s (%s) .twice s%s (slice-vals s%s)) $' % (p.row, p.s, p.s, p.row, p.s, p.s, p.life, p.s, p.T, p.s, p.s))
+                c.split('sl' + p.s, 'sl' + p.s, 'left' + p.s)
+def join_owned(c, ps, slice):
+    c.push('nothing !', 'ft'); cur = 'ft'
+    for p in reversed(ps):
+        if p.kind == 'x': c.push('owned ! X%s (Is X%s) (d%s .makes) x%s _ is%s' % ((p.s,) * 5), 'x')
+        else: c.mv(slice + p.s, cur); c.l[0] = 'x'
+        c.fjoin('x', cur, 'rest'); cur = 'rest'
+    return cur
+
+# the tokens and the slices that are handed to the callee: as one item, together, and apart
+def handed(sl):
+    t = ['(‵ (flft κ%s q%s) ⊛ ‵ (%s .own %s (%s ∷ [])))' % (p.s, p.s, p.row, '(%s)' % p.arg, p.val) for p in sl]
+    while len(t) > 1: t[-2:] = ['(%s ⊛ %s)' % tuple(t[-2:])]
+    return t
+def hand(c, sl, name):
+    for p in sl: c.join('tok' + p.s, 'sl' + p.s, 'A' + p.s)
+    cur = 'A' + sl[-1].s if sl else ''
+    for p in reversed(sl[:-1]): c.join('A' + p.s, cur, 'TS'); cur = 'TS'
+    all_ = ['tk', 'cs'] + [cur] * bool(sl)
+    c.mv(*all_); c.say('use%d W (raw (Callee%s .pre (to%s ν δ))) (calls%s ν δ isd) $' % (len(all_), name, name, name)); c.repl(len(all_), 'pre')
+def unhand(c, sl):
+    for p in sl:
+        if p is not sl[-1]: c.split('TS', 'A' + p.s, 'TS')
+        c.split('A' + p.s if p is not sl[-1] else 'TS', 'tok' + p.s, 'sl' + p.s)
+
+# what is left of them at the end: the items and their labels, the last values, why these fit, and how the callee leaves them
+def left(sl): return [t for p in sl for t in ('‵ (flft κ%s q%s)' % (p.s, p.s), '‵ (finally (%s) γ%s zs%s)' % (p.T, p.s, p.s) if p.kind == 'm' else '‵ (%s .own s%s (slice-vals s%s))' % (p.row, p.s, p.s))]
+def left_labels(sl): return [x + p.s for p in sl for x in ['tok', 'left']]
+def last(p): return {'x': 'd%s .last x%s' % (p.s, p.s), 'm': 'zs' + p.s, 's': 'tt'}[p.kind]
+def fit(p): return 'l' + p.s if p.kind == 'm' else 'tt'
+def split_lasts(c, ps, ms):
+    for p in ps:
+        if not ms or p.i > ms[-1].i: break
+        if p.kind == 'm': c.fsplit('lasts', 'lm', 'lasts'); c.fsplit('lm', 'left' + p.s, 'feq'); c.mv('feq'); c.bind('feqL ! (λ l%s.' % p.s); c.repl(1)
+        else: c.fsplit('lasts', '.x2', 'lasts')
+
 def gen(name, kinds):
     ps = params(kinds); k = len(ps); L = 1 + sum(p.kind != 'x' for p in ps)
-    sl = [p for p in ps if p.kind != 'x']; ms = [p for p in ps if p.kind == 'm']
+    sl, ms = slices(ps)
     iS, iD, iA, iC = k + 2, k + 3, k + 4, k + 5
     mloc = {p.i: (k + 6 + 2 * j, k + 7 + 2 * j) for j, p in enumerate(ms)}
     n = k + 6 + 2 * len(ms)
     o = []
     w = lambda s: o.append(s)
-    doc = {'x': 'xᵢ: Xᵢ', 'm': 'l: &mut [uN]', 's': 'l: &[uN]'}
     xs_ty = ''.join('%s → ' % p.den for p in ps)
     ms_ty = ''.join('List ℕ → ' for p in ms)
     xs = ''.join(' ' + p.entry() for p in ps)
     ents = ''.join(' (%s : %s)' % (p.var, p.den) for p in ps)
     vars_ = ''.join(' ' + p.var for p in ps)
     zs = ''.join(' zs' + p.s for p in ms); zbinds = ''.join(' (zs%s : List ℕ)' % p.s for p in ms)
-    w('  -- ---- %s: %s' % (name, ', '.join({'x': 'a number', 'm': 'a slice lent for writing', 's': 'a slice lent for reading'}[c] for c in kinds) or 'no further parameter'))
+    w('  -- ---- %s: %s' % (name, told(kinds) or 'no further parameter'))
     w('  module _ %s(J : D .Denot → List ℕ → %sList ℕ → %sS .Denot → Type 0) (Q : R .Denot → %sR .Denot → %sN .Denot → Type 0)' % (''.join(p.types + ' ' for p in ps), xs_ty, ms_ty, xs_ty, ms_ty))
     w('      (tell : (h : R .Denot)%s (ws : List ℕ)%s (r : S .Denot) → length (z .cells h) ≡ z .n → length ws ≡ z .n → J (z .head h) (z .cells h)%s ws%s r → Q h%s (z .put-head (z .put-cells h ws) (two .fst r))%s (two .snd r)) (g : Name) where' % (ents, zbinds, vars_, zs, vars_, zs))
     # the code
-    locs = ['(dN .τ)', '(tyRef (named 0) mut (z .πR))'] + [p.mty for p in ps] + ['τS', '(dD .τ)', '(tyRef erased mut (tyArray (tyInt w64) (z .n)))', '(sliceTy (tyRef erased mut (tyInt w64)))']
-    for p in ms: locs += ['(tyRef erased mut (tyInt w%s))' % p.s, '(sliceTy (tyRef erased mut (tyInt w%s)))' % p.s]
+    locs = ['(dN .τ)', '(tyRef (named 0) mut (z .πR))'] + [p.mty for p in ps] + ['τS', '(dD .τ)', '(tyRef erased mut (tyArray (tyInt w64) (z .n)))', '(sliceTy (tyRef erased mut (tyInt w64)))'] + on_types(ms)
     stm = ['assign (place %d []) (rvOpd (copy (place 1 (deref (z .τR) ∷ field (z .kD) ∷ []))))' % iD,
            'assign (place %d []) (addrOf (place 1 (deref (z .τR) ∷ field (z .kC) ∷ [])))' % iA,
-           'assign (place %d []) (aggregate (copy (place %d []) ∷ z .num ∷ []))' % (iC, iA)]
-    for p in ms:
-        a_, c_ = mloc[p.i]
-        stm += ['assign (place %d []) (addrOf (place %d (field 0 ∷ deref (tyInt w%s) ∷ [])))' % (a_, p.i + 1, p.s),
-                'assign (place %d []) (aggregate (copy (place %d []) ∷ copy (place %d (field 1 ∷ [])) ∷ []))' % (c_, a_, p.i + 1)]
+           'assign (place %d []) (aggregate (copy (place %d []) ∷ z .num ∷ []))' % (iC, iA), *on_code(ms, mloc)]
     src = [iD, iC] + [mloc[p.i][1] if p.kind == 'm' else p.i + 1 for p in ps]
     stm += ['call g (%s) (place %d [])' % (lst('copy (place %d [])' % i for i in src), iS),
             'assign (place 1 (deref (z .τR) ∷ field (z .kD) ∷ [])) (rvOpd (copy (place %d (field 0 ∷ []))))' % iS,
@@ -164,7 +235,6 @@ def gen(name, kinds):
     w('    stay%s = %s\n' % (name, nest(['stay-ref (0 ∷ []) tt (plain (λ _. R))'] + [p.stay for p in ps])))
     # at one call
     w('    module _ (κ : Lft) (q : Share) (b o : ℕ) (γ : GName) (h : R .Denot)%s where' % ''.join(' ' + p.binds for p in ps))
-    den = lambda p: 'RefT (List ℕ)' if p.kind != 'x' else p.den
     w('      abbrev a%s : %s' % (name, prod(['RefT (R .Denot)'] + [den(p) for p in ps] + ['Unit {0}'])))
     w('      a%s = %s\n' % (name, nest(['record { ptr = (b, o); name = γ; now = h }'] + [p.arg for p in ps])))
     w('      abbrev vs%s : %s' % (name, prod(['List Val'] * (k + 1) + ['Unit {0}'])))
@@ -173,28 +243,14 @@ def gen(name, kinds):
     w('      abbrev End%s : Val → SProp 𝓤' % name)
     w('      End%s = walkOf 𝓤 H A fe%s stay%s fc%s .post %s\n' % (name, name, name, name, bound))
     # exits
-    items = ['‵ (fobs γ (R .coded .code h′))', '‵ (fbor κ (Body (mem R) b o γ))', '‵ (flft κ q)']
-    labels = ['obs', 'bor', 'tok']
-    for p in sl:
-        items += ['‵ (flft κ%s q%s)' % (p.s, p.s), '‵ (finally (%s) γ%s zs%s)' % (p.T, p.s, p.s) if p.kind == 'm' else '‵ (%s .own s%s (slice-vals s%s))' % (p.row, p.s, p.s)]
-        labels += ['tok' + p.s, 'left' + p.s]
-    Γ = lst(items)
+    Γ = lst(['‵ (fobs γ (R .coded .code h′))', '‵ (fbor κ (Body (mem R) b o γ))', '‵ (flft κ q)'] + left(sl))
     w('      exits%s : (h′ : R .Denot)%s (r : N .Denot) (v : Val) → Is N r (v ∷ [])%s → Q h%s h′%s r → ent 𝓤 (⋆ 𝓤 H A (%s)) (End%s v)' % (name, zbinds, ''.join(' → length zs%s ≡ length ys%s' % (p.s, p.s) for p in ms), xs, zs, Γ, name))
-    c = Ctx(labels, '          ')
+    c = Ctx(['obs', 'bor', 'tok'] + left_labels(sl), '          ')
     c.say('qed W (%s) ∵' % Γ)
-    last = {'x': lambda p: 'd%s .last x%s' % (p.s, p.s), 'm': lambda p: 'zs' + p.s, 's': lambda p: 'tt'}
-    c.say('suffices ! _ (ends-at 𝓤 H A fe%s stay%s fc%s W %s v r %s %s) $ says ! holds $' % (name, name, name, bound, nest(['h′'] + [last[p.kind](p) for p in ps]), nest(['tt'] + ['l' + p.s if p.kind == 'm' else 'tt' for p in ps])), True)
-    c.push('nothing !', 'ft')
-    cur = 'ft'
-    for p in reversed(sl): c.join('tok' + p.s, cur, 'T' + p.s); cur = 'T' + p.s
-    c.join('tok', cur, 'T'); c.say('frame ! $'); c.repl(1)
+    c.say('suffices ! _ (ends-at 𝓤 H A fe%s stay%s fc%s W %s v r %s %s) $ says ! holds $' % (name, name, name, bound, nest(['h′'] + [last(p) for p in ps]), nest(['tt'] + [fit(p) for p in ps])), True)
+    frame_tokens(c, sl, 'tok')
     c.mv('obs', 'bor'); c.push('feqI ! (List Val) (vptr b o ∷ []) (vptr b o ∷ []) refl', 'feq'); c.say('fjoin3 ! $'); c.repl(3, 'own')
-    c.push('nothing !', 'ft'); cur = 'ft'
-    for p in reversed(ps):
-        if p.kind == 'x': c.push('owned ! X%s (Is X%s) (d%s .makes) x%s _ is%s' % ((p.s,) * 5), 'x')
-        else: c.mv('left' + p.s, cur); c.l[0] = 'x'
-        c.fjoin('x', cur, 'rest'); cur = 'rest'
-    c.fjoin('own', cur, 'all')
+    c.fjoin('own', join_owned(c, ps, 'left'), 'all')
     c.say('frame ! $ owned ! N (Is N) (dN .makes) r _ is $')
     w('      exits%s h′%s r v is%s holds =\n          %s\n' % (name, zs, ''.join(' l' + p.s for p in ms), c.text('done !')))
     # the call
@@ -205,27 +261,12 @@ def gen(name, kinds):
     w('      abbrev to%s : ℕ → GName → Callee%s .Ghost' % (name, name))
     w('      to%s ν δ = ((%s, %s, tt, %s, %s), tt)\n' % (name, lifes(ps, 'ν ∷ []', 'κ'), lifes(ps, 'fullShare', 'q'), gargs, nest(['dD .val (z .head h) ∷ []', 'sliceVal (b, %s) (z .n) ∷ []' % off[1:-1]] + [p.val + ' ∷ []' for p in ps])))
     its = ['‵ (flft (ν ∷ []) fullShare)', '‵ (MutSlice (named 0) (ν ∷ []) u64 .own (lent%s δ) (sliceVal (b, %s) (z .n) ∷ []))' % (name, off[1:-1])]
-    labels = ['tk', 'cs']
-    if sl:
-        t = ['(‵ (flft κ%s q%s) ⊛ ‵ (%s .own %s (%s ∷ [])))' % (p.s, p.s, p.row, '(%s)' % p.arg, p.val) for p in sl]
-        ts = t[-1]
-        for u in reversed(t[:-1]): ts = '(%s ⊛ %s)' % (u, ts)
-        its.append(ts); labels.append('TS')
+    its += handed(sl)
     w('      calls%s : (ν : ℕ) (δ : GName) → Is D (z .head h) (dD .val (z .head h) ∷ []) → ent 𝓤 (⋆ 𝓤 H A (%s)) (Callee%s .pre (to%s ν δ))' % (name, lst(its), name, name))
-    c = Ctx(labels, '          ')
+    c = Ctx(['tk', 'cs', 'TS'][:len(its)], '          ')
     c.say('qed W (%s) ∵ use0 W (raw (emp 𝓤)) (id⊢ 𝓤 (emp 𝓤)) $ at-end ! $' % lst(its), True)
-    for p in sl:
-        if p is not sl[-1]: c.split('TS', 'A' + p.s, 'TS')
-        c.split('A' + p.s if p is not sl[-1] else 'TS', 'tok' + p.s, 'sl' + p.s)
-    c.push('nothing !', 'ft'); cur = 'ft'
-    for p in reversed(sl): c.join('tok' + p.s, cur, 'T' + p.s); cur = 'T' + p.s
-    c.join('tk', cur, 'T'); c.say('frame ! $'); c.repl(1)
-    c.push('nothing !', 'ft'); cur = 'ft'
-    for p in reversed(ps):
-        if p.kind == 'x': c.push('owned ! X%s (Is X%s) (d%s .makes) x%s _ is%s' % ((p.s,) * 5), 'x')
-        else: c.mv('sl' + p.s, cur); c.l[0] = 'x'
-        c.fjoin('x', cur, 'rest'); cur = 'rest'
-    c.fjoin('cs', cur, 'rest')
+    unhand(c, sl); frame_tokens(c, sl, 'tk')
+    c.fjoin('cs', join_owned(c, ps, 'sl'), 'rest')
     c.push('owned ! D (Is D) (dD .makes) (z .head h) _ isd', 'd'); c.fjoin('d', 'rest', 'all')
     w('      calls%s ν δ isd =\n          %s\n' % (name, c.text('done !')))
     # the walk
@@ -233,25 +274,10 @@ def gen(name, kinds):
     vals = lst(['vptr b o'] + [p.val for p in ps])
     w('        walk%s : ent 𝓤 (sep 𝓤 (onEntry 𝓤 H A fs%s %s %s a%s vs%s) (emp 𝓤)) (WpFn 𝓤 H (𝓣 .C) (𝓣 .Λ) fn%s (%s) End%s)' % (name, name, lifes(ps, 'κ', 'κ'), lifes(ps, 'q', 'q'), name, name, name, vals, name))
     c = Ctx(['TO', 'emp'], '            ')
-    def toks(first):
-        t = '‵ ftrue'
-        for p in reversed(sl): t = '(‵ (flft κ%s q%s) ⊛ %s)' % (p.s, p.s, t)
-        return '(%s ⊛ %s)' % (first, t)
-    def untok(first, end):   # the tokens, apart
-        c.split('T', first, 'T' if sl else end)
-        for p in sl: c.split('T', 'tok' + p.s, 'T' if p is not sl[-1] else end)
-    c.say('qed W ((%s ⊛ ‵ (owns (%s) a%s vs%s)) ∷ raw (emp 𝓤) ∷ []) ∵' % (toks('‵ (flft κ q)'), lst(['MutRef (named 0) κ R'] + [p.row for p in ps]), name, name))
-    c.split('TO', 'T', 'owns'); untok('tok', '.ft')
+    c.say('qed W ((%s ⊛ ‵ (owns (%s) a%s vs%s)) ∷ raw (emp 𝓤) ∷ []) ∵' % (tokens(sl, '‵ (flft κ q)'), lst(['MutRef (named 0) κ R'] + [p.row for p in ps]), name, name))
+    c.split('TO', 'T', 'owns'); split_tokens(c, sl, 'tok', '.ft')
     c.fsplit('owns', 'ownR', 'owns'); c.say('fsplit3 ! $ drop ! $'); c.repl(1, 'obs', 'bor')
-    for p in ps:
-        if not sl or p.i > sl[-1].i: break
-        if p.kind == 'x': c.fsplit('owns', '.x', 'owns')
-        else:
-            c.fsplit('owns', 'sl' + p.s, 'owns')
-            if p.kind == 's':
-                c.say('use1 W (‵ (%s .own s%s (slice-vals s%s)) ⊛ ‵ (%s .own s%s (slice-vals s%s))) (shr-slice-copy 𝓤 H A W (named %d) κ%s (%s) .twice s%s (slice-vals s%s)) $' % (p.row, p.s, p.s, p.row, p.s, p.s, p.life, p.s, p.T, p.s, p.s))
-                c.split('sl' + p.s, 'sl' + p.s, 'left' + p.s)
-    c.mv('obs', 'bor', 'tok')
+    split_owned(c, ps, sl); c.mv('obs', 'bor', 'tok')
     c.nl(); c.say('enter ! (𝓣 .C) (𝓣 .Λ) fn%s (%s) _ $' % (name, vals))
     for i in range(n):
         c.bind('alloc1 ! (λ l%d.' % i); c.repl(0, 'L%d' % i, '.f%d' % i)
@@ -266,10 +292,7 @@ def gen(name, kinds):
     c.say('assigns ! (of-opd ! (load ! (from ! (hop ! (look ! %d refl) (fld ! (z .at-head) (stop !)))) (look-part ! %d (z .one) (dD .val) (dD .tells) (dD .τ) (z .raw-head) refl (z .head-look h b o)))) (from ! (stop !)) (init ! %d refl (dD .typed (z .head h) _ isd)) $' % (L1, c.at('part'), c.at('L%d' % iD)), True)
     c.say('assigns ! (addr ! (from ! (hop ! (look ! %d refl) (fld ! (z .at-cells) (stop !))))) (from ! (stop !)) (init ! %d refl (tt, tt)) $' % (L1, c.at('L%d' % iA)), True)
     c.say('assigns ! (agg ! (and-then ! (load ! (from ! (stop !)) (look ! %d refl)) (and-then ! (z .lit _ ! _ _) (no-more !)))) (from ! (stop !)) (init ! %d refl (tt, (tt, (record { fits = z .room .0 }, tt)))) $' % (c.at('L%d' % iA), c.at('L%d' % iC)), True)
-    for p in ms:
-        a_, c_ = mloc[p.i]; lp = c.at('L%d' % (p.i + 1))
-        c.say('assigns ! (addr ! (from ! (fld ! refl (hop ! (look-in ! %d (sub ! 0 refl (whole !))) (stop !))))) (from ! (stop !)) (init ! %d refl (tt, tt)) $' % (lp, c.at('L%d' % a_)), True)
-        c.say('assigns ! (agg ! (and-then ! (load ! (from ! (stop !)) (look ! %d refl)) (and-then ! (load ! (from ! (fld ! refl (stop !))) (look-in ! %d (sub ! 1 refl (whole !)))) (no-more !)))) (from ! (stop !)) (init ! %d refl (tt, (tt, (record { fits = rm%s .0 }, tt)))) $' % (c.at('L%d' % a_), lp, c.at('L%d' % c_), p.s), True)
+    on_walk(c, ms, mloc)
     # the cells are lent
     c.say('use1 W (‵ (partAt (Array u64 (z .n)) fullShare (%s) b %s) ⊛ raw (Backs 𝓤 H A W R (Array u64 (z .n)) (λ y. y) (z .put-cells h) b o %s)) (z .lends h b o .cut) $' % (cells, off, off))
     c.split('part', 'arr', 'back')
@@ -279,19 +302,13 @@ def gen(name, kinds):
     c.bind('use1 W (later (some (λ (δ : GName). ‵ (MutSlice (named 0) (ν ∷ []) u64 .own (lent%s δ) (sliceVal (b, %s) (length (%s)) ∷ [])) ⊛ ‵ (flent (ν ∷ []) (Held u64 (length (%s)) b %s δ))))) (lends-slice 𝓤 H A W u64 (named 0) (ν ∷ []) (%s) b %s (subst (Room u64) (sym e) (z .room))) $ await ! tt $ pick ! (λ δ.' % (name, off[1:-1], cells, cells, off, cells, off))
     c.split('arr', 'cs', 'lent')
     c.say('rewrite ! 0 (λ (m : ℕ). ‵ (MutSlice (named 0) (ν ∷ []) u64 .own (lent%s δ) (sliceVal (b, %s) m ∷ []))) e refl $' % (name, off[1:-1]))
-    if sl:
-        for p in sl: c.join('tok' + p.s, 'sl' + p.s, 'A' + p.s)
-        cur = 'A' + sl[-1].s
-        for p in reversed(sl[:-1]): c.join('A' + p.s, cur, 'TS'); cur = 'TS'
-        c.mv('tk', 'cs', cur); c.say('use3 W (raw (Callee%s .pre (to%s ν δ))) (calls%s ν δ isd) $' % (name, name, name)); c.repl(3, 'pre')
-    else: c.mv('tk', 'cs'); c.say('use2 W (raw (Callee%s .pre (to%s ν δ))) (calls%s ν δ isd) $' % (name, name, name)); c.repl(2, 'pre')
-    c.note()
+    hand(c, sl, name); c.note()
     ops = '(no-more !)'
     for i in reversed(src): ops = '(and-then ! (load ! (from ! (stop !)) (look ! %d refl)) %s)' % (c.at('L%d' % i), ops)
     c.bind('calls-at ! (fmOf 𝓤 H (W .laws) 𝓣) Callee%s known (to%s ν δ) %s (λ v.' % (name, name, ops)); c.repl(1)
     c.nl()
     ens = 'ensured 𝓤 H A ge%s gc%s %s %s tt r' % (name, name, lifes(ps, 'ν ∷ []', 'κ'), gargs)
-    c.bind('use1 W (later (some (λ (r : S .Denot). (%s ⊛ ‵ (S .own r (v ∷ []))) ⊛ raw (%s)))) (id⊢ 𝓤 _) $ await ! tt $ pick ! (λ r.' % (toks('‵ (flft (ν ∷ []) fullShare)'), ens)); c.repl(0, 'P')
+    c.bind('use1 W (later (some (λ (r : S .Denot). (%s ⊛ ‵ (S .own r (v ∷ []))) ⊛ raw (%s)))) (id⊢ 𝓤 _) $ await ! tt $ pick ! (λ r.' % (tokens(sl, '‵ (flft (ν ∷ []) fullShare)'), ens)); c.repl(0, 'P')
     c.split('P', 'TO', 'ens'); c.mv('ens')
     wt = prod(['_', 'List ℕ'] + ['List ℕ' if p.kind == 'm' else '_' for p in ps] + ['Unit {0}'])
     wz = ''.join(' (ws%s)' % acc(p.i + 1) for p in ms)
@@ -300,12 +317,9 @@ def gen(name, kinds):
     c.split('ens', 'lasts', 'fact'); c.mv('fact'); c.bind('heard ! (%s) (λ jj.' % Jw); c.repl(1)
     c.nl()
     c.fsplit('lasts', '.d', 'lasts'); c.fsplit('lasts', 'lc', 'lasts'); c.fsplit('lc', 'fin', 'feq'); c.mv('feq'); c.bind('feqL ! (λ le.'); c.repl(1)
-    for p in ps:
-        if not ms or p.i > ms[-1].i: break
-        if p.kind == 'm': c.fsplit('lasts', 'lm', 'lasts'); c.fsplit('lm', 'left' + p.s, 'feq'); c.mv('feq'); c.bind('feqL ! (λ l%s.' % p.s); c.repl(1)
-        else: c.fsplit('lasts', '.x2', 'lasts')
+    split_lasts(c, ps, ms)
     c.split('TO', 'T', 'own'); c.mv('own'); c.bind('peeks ! S (Is S) (shows 𝓤 H A S) r (v ∷ []) (λ isr.'); c.say('drop ! $'); c.repl(1)
-    untok('tk', '.ft2')
+    split_tokens(c, sl, 'tk', '.ft2')
     c.note()
     LS = c.at('L%d' % iS)
     c.say('land ! (from ! (stop !)) (init ! %d refl (two .typed r _ isr)) $ rewrite ! %d (λ (u : Val). ‵ (fat fullShare τS l%d 0 u)) (two .spelled r v isr) refl $' % (LS, LS, iS), True)
@@ -326,7 +340,7 @@ def gen(name, kinds):
     c.nl()
     for i in range(n): c.mv('L%d' % i, '.f%d' % i); c.say('free1 ! $'); c.repl(2)
     c.say('free0 ! $'); c.nl()
-    c.keep(*(['obs', 'bor', 'tok'] + [x + p.s for p in sl for x in ['tok', 'left']]))
+    c.keep('obs', 'bor', 'tok', *left_labels(sl))
     body = c.text('by ! (exits%s (z .put-head (z .put-cells h (ws .1 .0)) (two .fst r))%s (two .snd r) _ (two .is-snd r v isr)%s (tell h%s (ws .1 .0)%s r e (le ∙ e) jj))' % (name, wz, ''.join(' l' + p.s for p in ms), xs, wz))
     w('        walk%s =\n            %s\n' % (name, body))
     w('    pub on-head-%s : (𝓣 : Tables 𝓤 H) → Triple 𝓤 (𝓣 .C g) Callee%s → Meets 𝓤 H A fs%s (WpFn 𝓤 H (𝓣 .C) (𝓣 .Λ) fn%s) (closing 𝓤 H A fe%s fc%s)' % (name, name, name, name, name, name))

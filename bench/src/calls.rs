@@ -14,6 +14,8 @@ macro_rules! calls {
             fn expired_inflight(s: &mut Sender, list: &mut [u32], clock: u64) -> Reply;
             /// With the chunk as a slice.
             fn handle_sack(s: &mut Sender, chunk: &[u8]) -> Sacked;
+            /// With bytes and output as slices.
+            fn data_chunk(s: &Sender, bytes: &[u8], out: &mut [u8], tsn: u32) -> Reply;
         }
 
         impl Calls for Archive {
@@ -26,12 +28,16 @@ macro_rules! calls {
             fn handle_sack(s: &mut Sender, chunk: &[u8]) -> Sacked {
                 sys::handle_sack(s, chunk)
             }
+            fn data_chunk(s: &Sender, bytes: &[u8], out: &mut [u8], tsn: u32) -> Reply {
+                sys::data_chunk(s, bytes, out, tsn)
+            }
         }
 
         unsafe extern "C" {
             $(fn $anchor($($argument: $type),*) -> $reply;)*
             fn anchor_expired_inflight(s: &mut Sender, list: *mut u32, room: usize, clock: u64) -> Reply;
             fn anchor_handle_sack(s: &mut Sender, chunk: *const u8, length: usize) -> Sacked;
+            fn anchor_data_chunk(s: &Sender, bytes: *const u8, length: usize, out: *mut u8, room: usize, tsn: u32) -> Reply;
         }
 
         // SAFETY: the signatures are those of anchor.c, and its structs are the header's, which `sys` mirrors. A call is made over a state that
@@ -45,6 +51,9 @@ macro_rules! calls {
             }
             fn handle_sack(s: &mut Sender, chunk: &[u8]) -> Sacked {
                 unsafe { anchor_handle_sack(s, chunk.as_ptr(), chunk.len()) }
+            }
+            fn data_chunk(s: &Sender, bytes: &[u8], out: &mut [u8], tsn: u32) -> Reply {
+                unsafe { anchor_data_chunk(s, bytes.as_ptr(), bytes.len(), out.as_mut_ptr(), out.len(), tsn) }
             }
         }
     };

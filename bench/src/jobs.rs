@@ -1,5 +1,6 @@
 //! The cases. A job is the same work for every side; what prepares a state stands outside the timed part.
 pub mod cycles;
+pub mod data;
 pub mod expiries;
 pub mod questions;
 pub mod sacks;

@@ -3,7 +3,7 @@ use std::hint::black_box;
 use std::marker::PhantomData;
 
 use crate::calls::{Anchor, Archive, Calls};
-use crate::side::{Bytes, Chunk, Clockwork, FIRST_TSN, Freed, Side};
+use crate::side::{Bytes, Chunk, Clockwork, FIRST_TSN, Freed, Output, Side};
 use crate::sys;
 
 pub type Ours = Lent<Archive>;
@@ -23,6 +23,7 @@ pub struct Lent<C> {
     /// The host's copies, one behind the other, over and over; made at the first copy.
     store: Vec<u8>,
     place: usize,
+    output: Vec<u8>,
     calls: PhantomData<C>,
 }
 
@@ -62,7 +63,7 @@ impl<C: Calls> Side for Lent<C> {
     fn fresh(payload: u32, lifetime: u32) -> Self {
         let mut sender = Box::new(sys::Sender::ZERO);
         C::init(&mut sender, FIRST_TSN, 0);
-        let mut side = Lent { sender, list: [0; 256], store: Vec::new(), place: 0, calls: PhantomData };
+        let mut side = Lent { sender, list: [0; 256], store: Vec::new(), place: 0, output: vec![0; 1500], calls: PhantomData };
         (1..=2).for_each(|stream| side.open(stream, payload, lifetime));
         side
     }
@@ -99,6 +100,14 @@ impl<C: Calls> Side for Lent<C> {
         let sacked = C::handle_sack(&mut self.sender, packet);
         assert!(sacked.refusal == 0);
         (sacked.stale == 0).then_some(sacked.bytes)
+    }
+    fn data(&mut self, _: Output, tsn: u32) -> usize {
+        let reply = C::data_chunk(&self.sender, &self.store, &mut self.output, tsn);
+        assert!(reply.refusal == 0);
+        reply.value as usize
+    }
+    fn written(&self) -> &[u8] {
+        &self.output
     }
     fn release(&mut self, stream: u16, bytes: i64) -> bool {
         C::release(&mut self.sender, stream, bytes).yes != 0

@@ -22,10 +22,11 @@ use jobs::expiries::{
     StartLifetimes, Traffic,
 };
 use jobs::questions::{Ask, MarkAll, Question};
+use jobs::data::{Copy, Data};
 use jobs::sacks::{Sack, Told};
 use jobs::timers::TimerJob;
 use race::{Plan, Row};
-use side::Bytes;
+use side::{Bytes, Output};
 
 /// What is done with the jobs whose name has `only` in it.
 struct Task {
@@ -75,6 +76,13 @@ fn take_sacks(task: &mut Task) {
     for told in [Told::All, Told::Gaps, Told::Overlaps] {
         [10, 250].into_iter().for_each(|flight| task.take(Sack { flight, told }));
     }
+}
+
+fn take_data(task: &mut Task) {
+    for output in [Output::Anew, Output::Kept] {
+        [10, 250].into_iter().for_each(|flight| task.take(Data { flight, output }));
+    }
+    task.take(Copy);
 }
 
 fn take_expiries(task: &mut Task) {
@@ -134,7 +142,7 @@ fn positive(word: &str) -> u64 {
 
 fn main() {
     let mut task = read_arguments();
-    [take_cycles, take_sacks, take_expiries, take_questions, take_timers].iter().for_each(|take| take(&mut task));
+    [take_cycles, take_sacks, take_data, take_expiries, take_questions, take_timers].iter().for_each(|take| take(&mut task));
     if task.check {
         println!("all sides answer the same");
         return;

@@ -28,6 +28,15 @@ pub enum Bytes {
     NeitherCopies,
 }
 
+/// Where a chunk is written. Ours and the anchor write into bytes that the host lends, in either case.
+#[derive(Clone, Copy, PartialEq, Eq)]
+pub enum Output {
+    /// As the Rust's `marshal` is: into a fresh allocation.
+    Anew,
+    /// As its `marshal_to` is: into a buffer that has the room.
+    Kept,
+}
+
 pub const FIRST_TSN: u32 = 4_294_967_000;
 
 pub trait Side {
@@ -48,6 +57,10 @@ pub trait Side {
     fn packet(chunk: &[u8]) -> Self::Packet;
     /// The bytes that a SACK released; nothing where it is stale.
     fn sack(&mut self, packet: &Self::Packet) -> Option<u64>;
+    /// Writes the DATA chunk of a TSN; how many bytes it has.
+    fn data(&mut self, output: Output, tsn: u32) -> usize;
+    /// The chunk that was written last, in front.
+    fn written(&self) -> &[u8];
     fn release(&mut self, stream: u16, bytes: i64) -> bool;
     fn abandon(&mut self, tsn: u32) -> Option<Freed>;
     /// How many; the list itself is made as well.

@@ -4,12 +4,16 @@ use std::time::Instant;
 
 use sctp_proto::{Endpoint as Oracle, SnapError as BareTimers, SnapSide as BareSender};
 
-use crate::side::{Bytes, Chunk, Clockwork, Freed, Side};
+use crate::side::{Bytes, Chunk, Clockwork, Freed, Output, Side};
 
 pub struct Theirs {
     sender: BareSender,
     shared: bytes::Bytes,
     list: Vec<u32>,
+    marshalled: bytes::Bytes,
+    kept: bytes::BytesMut,
+    /// Whether the last chunk stands in the buffer that is kept.
+    in_kept: bool,
 }
 
 fn freed(stream: u16, bytes: usize) -> Freed {
@@ -29,7 +33,14 @@ impl Side for Theirs {
     type Packet = bytes::Bytes;
 
     fn fresh(payload: u32, lifetime: u32) -> Self {
-        Theirs { sender: Oracle::bench_sender(payload, lifetime), shared: bytes::Bytes::new(), list: Vec::new() }
+        Theirs {
+            sender: Oracle::bench_sender(payload, lifetime),
+            shared: bytes::Bytes::new(),
+            list: Vec::new(),
+            marshalled: bytes::Bytes::new(),
+            kept: bytes::BytesMut::with_capacity(1500),
+            in_kept: false,
+        }
     }
     fn open(&mut self, stream: u16, payload: u32, lifetime: u32) {
         self.sender.open(stream, payload, lifetime);
@@ -61,6 +72,17 @@ impl Side for Theirs {
     }
     fn sack(&mut self, packet: &bytes::Bytes) -> Option<u64> {
         self.sender.sack(packet).map(|bytes| bytes as u64)
+    }
+    fn data(&mut self, output: Output, tsn: u32) -> usize {
+        self.in_kept = output == Output::Kept;
+        if self.in_kept {
+            return self.sender.marshal_to(tsn, &mut self.kept).expect("in flight");
+        }
+        self.marshalled = self.sender.marshal(tsn).expect("in flight");
+        self.marshalled.len()
+    }
+    fn written(&self) -> &[u8] {
+        if self.in_kept { &self.kept } else { &self.marshalled }
     }
     fn release(&mut self, stream: u16, bytes: i64) -> bool {
         self.sender.released(stream, bytes)

@@ -2,6 +2,7 @@
 // said of them, each timer is the one of its place, and every field and parameter is told apart from its neighbours.
 #include "girdermoth.h"
 #include <stdio.h>
+#include <string.h>
 
 static int bad = 0;
 #define WANT(ok) do { if (!(ok)) { bad++; printf("WRONG, line %d: %s\n", __LINE__, #ok); } } while (0)
@@ -142,6 +143,32 @@ static void refusals(void) {
     WANT(girdermoth_write(&s, 21, 53, 0, 1).refusal == GIRDERMOTH_NUMBERS_SPENT && girdermoth_write(&s, 21, 53, 0, 0).refusal == GIRDERMOTH_DONE);
 }
 
+// The DATA chunk of an entry, each of its fields another number; what stands behind it stays. Then the three refusals, which leave the output.
+static void chunks(void) {
+    const uint8_t bytes[] = "....abcdefg", last[] = {0, 5, 0, 19, 0, 0, 0x1b, 0x59, 0, 22, 0, 2, 1, 2, 3, 4, 'e', 'f', 'g', 0, 9, 9};
+    uint8_t out[22], same[22];
+    memset(out, 9, sizeof out);
+    fresh(false, GIRDERMOTH_RELIABLE, 0);
+    girdermoth_open_stream(&s, 22, 4);
+    for (int i = 0; i < 2; i++) girdermoth_write(&s, 22, 53, 0, 1);
+    girdermoth_set_reliability_params(&s, 22, true, GIRDERMOTH_RELIABLE, 0);
+    girdermoth_write(&s, 22, 0x01020304, 4, 7);
+    while (girdermoth_send_next(&s, 0).some) {}
+    girdermoth_reply r = girdermoth_data_chunk(&s, bytes, 11, out, sizeof out, 7001);
+    WANT(r.refusal == GIRDERMOTH_DONE && r.yes && r.value == 20 && memcmp(out, last, sizeof out) == 0);
+    WANT(girdermoth_data_chunk(&s, bytes, 8, out, 20, 7000).value == 20 && out[1] == 6 && out[3] == 20 && out[7] == 0x58 && out[19] == 'd');
+    WANT(girdermoth_data_chunk(&s, bytes, 1, out, 20, 7002).value == 20 && out[1] == 3 && out[3] == 17 && out[11] == 0 && out[15] == 53);
+    memcpy(same, out, sizeof out);
+    WANT(girdermoth_data_chunk(&s, bytes, 0, out, 0, 7004).refusal == GIRDERMOTH_NO_ENTRY);
+    r = girdermoth_data_chunk(&s, bytes, 10, out, 0, 7001);
+    WANT(r.refusal == GIRDERMOTH_PAYLOAD_OUTSIDE && !r.yes && r.value == 0);
+    WANT(girdermoth_data_chunk(&s, bytes, 11, out, 19, 7001).refusal == GIRDERMOTH_OUTPUT_SHORT);
+    girdermoth_mark_as_acked(&s, 7001);
+    girdermoth_abandon(&s, 7002);
+    for (uint32_t tsn = 7001; tsn < 7003; tsn++) WANT(girdermoth_data_chunk(&s, bytes, 11, out, sizeof out, tsn).refusal == GIRDERMOTH_NO_ENTRY);
+    WANT(memcmp(out, same, sizeof out) == 0);
+}
+
 // A SACK with one block: what it releases, or that it is stale; the two refusals; what else its bytes say is not read.
 static void sacks(void) {
     uint8_t b[20] = {3, 0, 0, 20, 0, 0, 0x1b, 0x59, 0, 1, 0, 0, 0, 1, 0, 0, 0, 2, 0, 3};   // 7001, 2 to 3
@@ -221,7 +248,7 @@ static void estimator(void) {
 }
 
 int main(void) {
-    kinds(); payload_types(); fragments(); questions(); refusals(); sacks(); timers(); estimator();
+    kinds(); payload_types(); fragments(); questions(); refusals(); chunks(); sacks(); timers(); estimator();
     printf("meanings: %d wrong\n", bad);
     return bad != 0;
 }

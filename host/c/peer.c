@@ -23,6 +23,7 @@ uint64_t next_arrival(void) {
 // ---- the receiver: chunks by their TSNs, as far as they are behind the cumulative one (`seen`) or not yet delivered (`held`)
 
 enum { PLACES = 1024 };
+typedef struct { uint32_t tsn, protocol; uint16_t stream, ssn, length; bool unordered, beginning, ending; uint8_t bytes[PAYLOAD]; } chunk;
 typedef struct { chunk data; bool seen, held; } place;
 static place got[PLACES];
 static uint32_t cumulative, highest;
@@ -44,7 +45,7 @@ static bool deliver(uint32_t tsn) {
         length += c->length;
         if (c->ending) break;
     }
-    delivered(first->stream, bytes, length);
+    delivered(first->stream, first->protocol, bytes, length);
     next_ssn[first->stream] += !first->unordered;
     for (uint32_t t = tsn; t != end + 1; t++) got[t % PLACES].held = false;
     return true;
@@ -57,10 +58,26 @@ static bool deliver_from(uint32_t tsn) {
     return any;
 }
 
-static void take_data(const chunk *c) {
-    uint32_t tsn = c->tsn;
+static uint32_t number(const uint8_t *at, int width) { uint32_t value = 0; while (width--) value = value << 8 | *at++; return value; }
+
+// RFC 9260, 3.3.1: type, flags, length, TSN, stream, SSN, payload type and payload, and zeros up to the next chunk, which begins at a multiple of four.
+static bool read_data(const packet *p, chunk *c) {
+    const uint8_t *b = p->bytes;
+    uint32_t length = p->length < 16 ? 0 : number(b + 2, 2), end = length;
+    if (length <= 16 || length > p->length || length > 16 + PAYLOAD || b[0] != DATA || b[1] > 7 || number(b + 8, 2) >= STREAMS) return false;
+    while (end % 4) if (b[end++]) return false;
+    *c = (chunk){.tsn = number(b + 4, 4), .stream = (uint16_t)number(b + 8, 2), .ssn = (uint16_t)number(b + 10, 2), .protocol = number(b + 12, 4),
+                 .length = (uint16_t)(length - 16), .unordered = b[1] & 4, .beginning = b[1] & 2, .ending = b[1] & 1};
+    memcpy(c->bytes, b + 16, c->length);
+    return end == p->length;
+}
+
+static void take_data(const packet *p) {
+    chunk c;
+    if (!read_data(p, &c)) { want(false, "what came is no DATA chunk"); return; }
+    uint32_t tsn = c.tsn;
     if (!after(tsn, cumulative) || seen(tsn)) return;
-    got[tsn % PLACES] = (place){.data = *c, .seen = true, .held = true};
+    got[tsn % PLACES] = (place){.data = c, .seen = true, .held = true};
     if (after(tsn, highest)) highest = tsn;
     while (!held(tsn)->beginning && held(tsn - 1)) tsn--;
     if (deliver(tsn)) deliver_from(tsn);
@@ -87,22 +104,22 @@ static void acknowledge(void) {
     for (uint32_t t = cumulative + 1; !after(t, highest); t++) {
         if (!seen(t)) continue;
         if (!seen(t - 1)) {
-            if (p.length == sizeof p.sack) break;
-            lay(p.sack + p.length, t - cumulative, 2);
+            if (p.length == sizeof p.bytes) break;
+            lay(p.bytes + p.length, t - cumulative, 2);
             p.length += 4;
         }
-        lay(p.sack + p.length - 2, t - cumulative, 2);
+        lay(p.bytes + p.length - 2, t - cumulative, 2);
     }
-    p.sack[0] = SACK;
-    lay(p.sack + 2, (uint32_t)p.length, 2);
-    lay(p.sack + 4, cumulative, 4);
-    lay(p.sack + 8, 1 << 17, 4);
-    lay(p.sack + 12, (uint32_t)(p.length - 16) / 4, 2);
+    p.bytes[0] = SACK;
+    lay(p.bytes + 2, (uint32_t)p.length, 2);
+    lay(p.bytes + 4, cumulative, 4);
+    lay(p.bytes + 8, 1 << 17, 4);
+    lay(p.bytes + 12, (uint32_t)(p.length - 16) / 4, 2);
     put(&p);
 }
 
 static void receive(const packet *p) {
-    if (p->kind == DATA) take_data(&p->data); else take_forward(p);
+    if (p->kind == DATA) take_data(p); else take_forward(p);
     while (seen(cumulative + 1)) cumulative++;
     acknowledge();
 }

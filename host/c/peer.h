@@ -3,17 +3,13 @@
 #define PEER_H
 #include "trial.h"
 
-enum { BLOCKS = 16 };
 enum { DATA = 0, SACK = 3, FORWARD = 192 };
 
-typedef struct { uint32_t tsn; uint16_t stream, ssn, length; bool unordered, beginning, ending; uint8_t bytes[PAYLOAD]; } chunk;
-
-// A SACK is the bytes of its chunk. The pairs of a FORWARD-TSN are streams with their last SSNs. The link sets when it arrives.
+// DATA and SACK are the bytes of the chunk. The pairs of a FORWARD-TSN are streams with their last SSNs. The link sets when it arrives.
 typedef struct {
     uint64_t due;
     int kind;
-    chunk data;
-    uint8_t sack[16 + 4 * BLOCKS];
+    uint8_t bytes[16 + (PAYLOAD + 3) / 4 * 4];
     size_t length;
     uint32_t cumulative;
     int count;

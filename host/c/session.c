@@ -30,13 +30,13 @@ static void give_up(uint32_t tsn) {
     gone(c.message_id, girdermoth_next_tsn(&s).value == next ? GIVEN_UP : CUT, freed.stream, freed.bytes);   // a terminator was filed, or not
 }
 
-static void transmit(girdermoth_fragment c) {
-    chunk data = {.tsn = c.tsn, .stream = c.stream, .ssn = c.ssn, .length = (uint16_t)c.length, .unordered = c.unordered, .beginning = c.beginning, .ending = c.ending};
-    want(c.length > 0 && c.length <= PAYLOAD && !c.abandoned, "a terminator, or what was given up, was sent as DATA");
+static void transmit(girdermoth_fragment c) {   // for the first time, or again
+    static packet p = {.kind = DATA};
+    girdermoth_reply written = girdermoth_data_chunk(&s, store, sizeof store, p.bytes, sizeof p.bytes, c.tsn);
+    want(written.refusal == GIRDERMOTH_DONE, "a terminator, or what was acknowledged or given up, was to be sent");
     want(!c.has_deadline || now < c.deadline, "a chunk was sent behind its deadline");
-    memcpy(data.bytes, store + c.offset, c.length <= PAYLOAD ? c.length : 0);
-    kept[c.tsn % ROOM].sent++;
-    put(&(packet){.kind = DATA, .data = data});
+    p.length = written.value; kept[c.tsn % ROOM].sent++;
+    put(&p);
 }
 
 static void expire(void) {
@@ -92,7 +92,7 @@ static void sack(const packet *p) {   // what it acknowledged is told by the fli
     static girdermoth_fragment was[ROOM];
     uint32_t first = oldest(), entries = (uint32_t)girdermoth_inflight_len(&s).value, newest = first;
     for (uint32_t i = 0; i < entries; i++) was[i] = girdermoth_get(&s, first + i);
-    girdermoth_sacked answer = girdermoth_handle_sack(&s, p->sack, p->length);
+    girdermoth_sacked answer = girdermoth_handle_sack(&s, p->bytes, p->length);
     for (uint32_t t = first; t != first + entries; t++) {
         girdermoth_fragment before = was[t - first], c = girdermoth_get(&s, t);
         if (before.acked || (c.some && !c.acked)) continue;

@@ -5,7 +5,7 @@
 #include <string.h>
 
 enum { ROUNDS = 20000 };
-typedef struct { uint32_t length; uint16_t stream; bool ordered; int end, arrived; } message;
+typedef struct { uint32_t length, protocol; uint16_t stream; bool ordered; int end, arrived; } message;
 
 uint64_t now, first_number;
 long session, bad, counts[COUNTS];
@@ -61,7 +61,7 @@ void wrote(const wish *w, uint8_t refusal) {
     if (refusal == GIRDERMOTH_DONE) {
         for (uint32_t i = 0; i < w->length; i++) store[w->offset + i] = (uint8_t)rnd();
         memcpy(store + w->offset, &written, 4);
-        messages[written++] = (message){.length = w->length, .stream = w->stream, .ordered = w->ordered};
+        messages[written++] = (message){.length = w->length, .protocol = w->protocol, .stream = w->stream, .ordered = w->ordered};
     }
     if (last_wishes == 0 && rnd() % 4) next_write = now + 1 + rnd() % longest_pause;
 }
@@ -83,13 +83,13 @@ void ended(uint64_t number, int how) {
     counts[how == DROPPED ? UNSENT : how == CUT ? CUTS : LATE]++;
 }
 
-void delivered(uint16_t stream, const uint8_t *bytes, size_t length) {
+void delivered(uint16_t stream, uint32_t protocol, const uint8_t *bytes, size_t length) {
     uint32_t at = UINT32_MAX;
     if (length >= 4) memcpy(&at, bytes, 4);
     if (at >= written) { want(false, "a message that nobody wrote was delivered"); return; }
     message *m = &messages[at];
     bool same = length == m->length && memcmp(bytes, store + at * LONGEST, length) == 0;
-    want(same && stream == m->stream, "a message was not delivered whole");
+    want(same && stream == m->stream && protocol == m->protocol, "a message was not delivered whole, on its stream and under its type");
     want(m->arrived++ == 0, "a message was delivered twice");
     if (m->ordered) { want(at > last[stream], "an ordered message was delivered behind a later one"); last[stream] = at; }
     counts[ARRIVED]++;

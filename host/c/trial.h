@@ -30,7 +30,7 @@ bool wished(wish *w, bool idle);   // what is to be written now. When all is, an
 void wrote(const wish *w, uint8_t refusal);
 uint64_t next_wish(void);   // when; UINT64_MAX where none has a time
 void ended(uint64_t number, int how);
-void delivered(uint16_t stream, const uint8_t *bytes, size_t length);
+void delivered(uint16_t stream, uint32_t protocol, const uint8_t *bytes, size_t length);
 bool goes_on(bool idle);   // to be asked in each round: there is more to write, or to send
 void end_trial(void);   // what was not given up has arrived, and what was cut or dropped has not
 int report(long sessions);

@@ -163,7 +163,7 @@ impl Timers {
 }
 
 /// The calls on a sender: the name, and whether it only asks.
-pub(crate) const CALLS: [(&str, bool); 36] = [
+pub(crate) const CALLS: [(&str, bool); 37] = [
     ("girdermoth_init", false),
     ("girdermoth_open_stream", false),
     ("girdermoth_set_reliability_params", false),
@@ -181,6 +181,7 @@ pub(crate) const CALLS: [(&str, bool); 36] = [
     ("girdermoth_pop", false),
     ("girdermoth_mark_all_to_retransmit", false),
     ("girdermoth_expired_inflight", false),
+    ("girdermoth_data_chunk", true),
     ("girdermoth_get", true),
     ("girdermoth_is_abandoned", true),
     ("girdermoth_peek_pending", true),
@@ -202,8 +203,8 @@ pub(crate) const CALLS: [(&str, bool); 36] = [
     ("girdermoth_next_deadline", true),
 ];
 
-/// A call on a sender, with any numbers, a list and bytes that are lent.
-pub(crate) fn call(which: usize, s: &mut Sender, list: &mut [u32], bytes: &[u8], [a, b, c, d]: [u64; 4]) -> Vec<u64> {
+/// A call on a sender, with any numbers, and a list, bytes and an output that are lent.
+pub(crate) fn call(which: usize, s: &mut Sender, list: &mut [u32], bytes: &[u8], out: &mut [u8], [a, b, c, d]: [u64; 4]) -> Vec<u64> {
     match which {
         0 => girdermoth_init(s, a as u32, b).told(),
         1 => girdermoth_open_stream(s, a as u16, b as u32).told(),
@@ -222,25 +223,26 @@ pub(crate) fn call(which: usize, s: &mut Sender, list: &mut [u32], bytes: &[u8],
         14 => girdermoth_pop(s, a as u32).told(),
         15 => girdermoth_mark_all_to_retransmit(s).told(),
         16 => expired_inflight(s, list, a).told(),
-        17 => girdermoth_get(s, a as u32).told(),
-        18 => girdermoth_is_abandoned(s, a as u32).told(),
-        19 => girdermoth_peek_pending(s).told(),
-        20 => girdermoth_next_message_id(s).told(),
-        21 => girdermoth_next_tsn(s).told(),
-        22 => girdermoth_pending_len(s).told(),
-        23 => girdermoth_pending_bytes(s).told(),
-        24 => girdermoth_inflight_len(s).told(),
-        25 => girdermoth_inflight_bytes(s).told(),
-        26 => girdermoth_earliest_outstanding_tsn(s).told(),
-        27 => girdermoth_pending_contains_stream(s, a as u16).told(),
-        28 => girdermoth_contains_stream(s, a as u16).told(),
-        29 => girdermoth_buffered_amount(s, a as u16).told(),
-        30 => girdermoth_buffered_amount_low_threshold(s, a as u16).told(),
-        31 => girdermoth_buffered_amount_high_threshold(s, a as u16).told(),
-        32 => girdermoth_stats(s, a as u16).told(),
-        33 => girdermoth_oldest_tsn(s).told(),
-        34 => girdermoth_ring_room(s, a % 2 == 1).told(),
-        35 => girdermoth_next_deadline(s).told(),
+        17 => data_chunk(s, bytes, out, a as u32).told(),
+        18 => girdermoth_get(s, a as u32).told(),
+        19 => girdermoth_is_abandoned(s, a as u32).told(),
+        20 => girdermoth_peek_pending(s).told(),
+        21 => girdermoth_next_message_id(s).told(),
+        22 => girdermoth_next_tsn(s).told(),
+        23 => girdermoth_pending_len(s).told(),
+        24 => girdermoth_pending_bytes(s).told(),
+        25 => girdermoth_inflight_len(s).told(),
+        26 => girdermoth_inflight_bytes(s).told(),
+        27 => girdermoth_earliest_outstanding_tsn(s).told(),
+        28 => girdermoth_pending_contains_stream(s, a as u16).told(),
+        29 => girdermoth_contains_stream(s, a as u16).told(),
+        30 => girdermoth_buffered_amount(s, a as u16).told(),
+        31 => girdermoth_buffered_amount_low_threshold(s, a as u16).told(),
+        32 => girdermoth_buffered_amount_high_threshold(s, a as u16).told(),
+        33 => girdermoth_stats(s, a as u16).told(),
+        34 => girdermoth_oldest_tsn(s).told(),
+        35 => girdermoth_ring_room(s, a % 2 == 1).told(),
+        36 => girdermoth_next_deadline(s).told(),
         _ => unreachable!("there are {} calls", CALLS.len()),
     }
 }

@@ -8,7 +8,8 @@
 //! - [`RtoManager`]: the round-trip estimator, bit for bit the Rust's.
 //!
 //! The caller brings the clock, in whole milliseconds: any beginning will do, up to [`CLOCK_MAX`]; it may go back. The caller also keeps the
-//! bytes of its messages: a message is given as an offset and a length, and a chunk tells which of the bytes it carries.
+//! bytes of its messages: a message is given as an offset and a length, a chunk tells which of the bytes it carries, and
+//! [`data_chunk`](Sender::data_chunk) copies these into what goes on the wire.
 //!
 //! A call that is refused answers a [`Refusal`] and changes nothing.
 //!

@@ -1,6 +1,6 @@
 use std::fmt;
 
-/// Why a call was refused. A refused call changes nothing: not the state, not a lent list.
+/// Why a call was refused. A refused call changes nothing: not the state, not a lent list or output.
 #[derive(Clone, Copy, Debug, PartialEq, Eq, Hash)]
 #[repr(u8)]
 pub enum Refusal {
@@ -33,11 +33,17 @@ pub enum Refusal {
     BadSack = 13,
     /// 14: a gap block starts at 0, starts behind its end, or ends beyond the newest entry in flight.
     BadBlock = 14,
+    /// 15: no entry in flight has the TSN, or the one that has it is acknowledged or abandoned, as a terminator is.
+    NoEntry = 15,
+    /// 16: the entry's payload ends beyond the lent bytes.
+    PayloadOutside = 16,
+    /// 17: the lent output is shorter than the chunk with its padding.
+    OutputShort = 17,
 }
 
 impl Refusal {
     /// Every refusal, in the order of its number.
-    pub const ALL: [Refusal; 14] = [
+    pub const ALL: [Refusal; 17] = [
         Refusal::BeyondLimit,
         Refusal::BadBounds,
         Refusal::NotOpen,
@@ -52,26 +58,29 @@ impl Refusal {
         Refusal::CountFull,
         Refusal::BadSack,
         Refusal::BadBlock,
+        Refusal::NoEntry,
+        Refusal::PayloadOutside,
+        Refusal::OutputShort,
     ];
 
-    /// The number that the archive answers, 1 to 14.
+    /// The number that the archive answers, 1 to 17.
     pub const fn number(self) -> u8 {
         self as u8
     }
 
-    /// The refusal of a number; nothing for 0, which is "done", and for numbers above 14.
+    /// The refusal of a number; nothing for 0, which is "done", and for numbers above 17.
     pub const fn from_number(number: u8) -> Option<Refusal> {
         match number {
-            1..=14 => Some(Refusal::ALL[number as usize - 1]),
+            1..=17 => Some(Refusal::ALL[number as usize - 1]),
             _ => None,
         }
     }
 
-    /// A reply's refusal. No call answers a number above 14; an archive that does is not the one that this crate is written for.
+    /// A reply's refusal. No call answers a number above 17; an archive that does is not the one that this crate is written for.
     pub(crate) fn check(number: u8) -> Result<(), Refusal> {
         match number {
             0 => Ok(()),
-            _ => Err(Refusal::from_number(number).expect("the archive answers 0 to 14")),
+            _ => Err(Refusal::from_number(number).expect("the archive answers 0 to 17")),
         }
     }
 }
@@ -93,6 +102,9 @@ impl fmt::Display for Refusal {
             Refusal::CountFull => "the timer's count of expiries is at its limit",
             Refusal::BadSack => "the lent bytes are no SACK: too short, of another type, or not as long as they say",
             Refusal::BadBlock => "a gap block of the SACK starts at 0, starts behind its end, or ends beyond the newest entry in flight",
+            Refusal::NoEntry => "no entry in flight has the TSN, or it is acknowledged or abandoned",
+            Refusal::PayloadOutside => "the payload of the entry ends beyond the lent bytes",
+            Refusal::OutputShort => "the lent output is shorter than the chunk with its padding",
         })
     }
 }

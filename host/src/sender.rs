@@ -251,6 +251,42 @@ impl Sender {
         Ok(&list[..count as usize])
     }
 
+    // ---- chunks for the wire
+
+    /// Writes the DATA chunk of a TSN in flight (RFC 9260, section 3.3.1), the first time and whenever it is sent again: its header, its payload, and
+    /// zeros up to a multiple of four. They are written to the front of `out`, and answered as the part of it that they fill; the rest of `out` stays,
+    /// and so does the sender. The payload is copied from `bytes`, which the offset of [`write`](Sender::write) counts from. The packet around the
+    /// chunk, with its common header and its checksum, is the host's.
+    ///
+    /// Refused, in this order: [`NoEntry`](Refusal::NoEntry), [`PayloadOutside`](Refusal::PayloadOutside), [`OutputShort`](Refusal::OutputShort); then
+    /// all of `out` stays.
+    ///
+    /// ```
+    /// use girdermoth::{PayloadProtocolIdentifier, Refusal, Sender};
+    ///
+    /// # fn main() -> Result<(), Refusal> {
+    /// let store = b"..hello.."; // the host's bytes, of which a message is a part
+    /// let mut sender = Sender::new(4_294_967_295, 0);
+    /// sender.open_stream(7, 1200)?;
+    /// sender.write(7, PayloadProtocolIdentifier::STRING, 2, 5)?;
+    /// let chunk = sender.send_next(0)?.expect("it is pending");
+    ///
+    /// let mut packet = [0; 1212];
+    /// let data = sender.data_chunk(chunk.tsn, store, &mut packet[12..])?; // behind the common header
+    /// assert_eq!(data[..8], [0, 3, 0, 21, 255, 255, 255, 255]); // DATA, first and last fragment, 16 + 5 bytes, TSN
+    /// assert_eq!(data[8..16], [0, 7, 0, 0, 0, 0, 0, 51]); // stream, SSN, payload type
+    /// assert_eq!(data[16..], *b"hello\0\0\0");
+    ///
+    /// sender.mark_as_acked(chunk.tsn);
+    /// assert_eq!(sender.data_chunk(chunk.tsn, store, &mut packet[12..]), Err(Refusal::NoEntry));
+    /// # Ok(())
+    /// # }
+    /// ```
+    pub fn data_chunk<'a>(&self, tsn: u32, bytes: &[u8], out: &'a mut [u8]) -> Result<&'a [u8], Refusal> {
+        let written = answer(sys::data_chunk(&self.0, bytes, out, tsn))?.value;
+        Ok(&out[..written as usize])
+    }
+
     // ---- questions
 
     /// The entry of a TSN in flight.
@@ -368,6 +404,11 @@ mod tests {
         let mut sack = [3, 0, 0, 20, 0, 0, 0, 6, 0, 0, 0, 0, 0, 1, 0, 0, 0, 1, 0, 2];
         refuses(&mut s, Refusal::BadSack, |s| s.handle_sack(&sack[..19]));
         refuses(&mut s, Refusal::BadBlock, |s| s.handle_sack(&sack));
+        let mut out = [7; 1216];
+        refuses(&mut s, Refusal::NoEntry, |s| s.data_chunk(8, &[0; 3000], &mut out).map(<[u8]>::len));
+        refuses(&mut s, Refusal::PayloadOutside, |s| s.data_chunk(7, &[0; 1199], &mut out).map(<[u8]>::len));
+        refuses(&mut s, Refusal::OutputShort, |s| s.data_chunk(7, &[0; 1200], &mut out[..1215]).map(<[u8]>::len));
+        assert_eq!(out, [7; 1216]);
         sack[19] = 1;
         assert_eq!(s.handle_sack(&sack), Ok(Some(Sacked { bytes: 1200 })));
     }

@@ -243,6 +243,9 @@ unsafe extern "C" {
     pub(crate) safe fn girdermoth_mark_all_to_retransmit(s: &mut Sender) -> Reply;
     unsafe fn girdermoth_expired_inflight(s: &mut Sender, list: *mut u32, room: usize, clock: u64) -> Reply;
 
+    // ---- chunks for the wire. Packets, with their common header and their checksum, are the host's
+    unsafe fn girdermoth_data_chunk(s: &Sender, bytes: *const u8, length: usize, out: *mut u8, room: usize, tsn: u32) -> Reply;
+
     // ---- questions. None is refused but where it says so
     pub(crate) safe fn girdermoth_get(s: &Sender, tsn: u32) -> Fragment;
     pub(crate) safe fn girdermoth_is_abandoned(s: &Sender, tsn: u32) -> Reply;
@@ -286,14 +289,21 @@ unsafe extern "C" {
 
 /// With the chunk as a slice.
 pub(crate) fn handle_sack(s: &mut Sender, chunk: &[u8]) -> Sacked {
-    // SAFETY: pointer and length are those of one slice that is lent for this call, so it does not lie within the sender, which is lent as
-    // `&mut` beside it; the call is proved to read the first `length` bytes only, and keeps no pointer.
+    // SAFETY: pointer and length are those of one slice that is lent for this call, and what is lent as `&mut` overlaps nothing else; the call is
+    // proved to read the first `length` bytes only, and keeps no pointer.
     unsafe { girdermoth_handle_sack(s, chunk.as_ptr(), chunk.len()) }
 }
 
 /// With the list as a slice.
 pub(crate) fn expired_inflight(s: &mut Sender, list: &mut [u32], clock: u64) -> Reply {
-    // SAFETY: pointer and room are those of one slice that is lent for this call alone, so it does not lie within the sender, which is lent as
-    // `&mut` beside it; the call is proved to write in the first `room` numbers only, and keeps no pointer.
+    // SAFETY: pointer and room are those of one slice that is lent for this call, and what is lent as `&mut` overlaps nothing else; the call is
+    // proved to write in the first `room` numbers only, and keeps no pointer.
     unsafe { girdermoth_expired_inflight(s, list.as_mut_ptr(), list.len(), clock) }
+}
+
+/// With bytes and out as slices.
+pub(crate) fn data_chunk(s: &Sender, bytes: &[u8], out: &mut [u8], tsn: u32) -> Reply {
+    // SAFETY: pointers and counts are those of slices that are lent for this call, and what is lent as `&mut` overlaps nothing else; the call is
+    // proved to read the first `length` bytes and to write in the first `room` bytes only, and keeps no pointer.
+    unsafe { girdermoth_data_chunk(s, bytes.as_ptr(), bytes.len(), out.as_mut_ptr(), out.len(), tsn) }
 }

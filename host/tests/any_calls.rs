@@ -97,7 +97,7 @@ fn sacked(s: &mut Sender, oldest: &mut u32, rng: &mut Rng) -> Result<(), Refusal
 #[test]
 fn whatever_is_called_the_answers_agree() {
     let share = std::env::var("GIRDERMOTH_SHARE").map_or(1, |share| share.parse().expect("GIRDERMOTH_SHARE is a number"));
-    let mut refused = [0; 15];
+    let mut refused = [0; 18];
     let (mut terminators, mut steps) = (0, 0);
     for seed in 1..=24u64.div_ceil(share) {
         let mut rng = Rng(seed.wrapping_mul(0x9E37_79B9_7F4A_7C15));
@@ -112,12 +112,13 @@ fn whatever_is_called_the_answers_agree() {
             let tsn = oldest.wrapping_add(rng.below(s.inflight_len() as u64 + 2) as u32);
             let before = asked(&s, oldest);
             let next = s.next_tsn();
-            let answer = match rng.below(17) {
+            let answer = match rng.below(18) {
                 0 => s.open_stream(stream, [0, 1, 7, 1200][rng.below(4) as usize]),
                 1 => s.set_reliability_params(stream, rng.below(2) == 0, ReliabilityType::from(rng.below(3) as u8), rng.below(60) as u32),
                 2..=4 => {
                     let (ppi, length) = (PayloadProtocolIdentifier(50 + rng.below(8) as u32), [0, 1, 20, 40, 5_000, 65_537][rng.below(6) as usize]);
-                    s.write(stream, ppi, rng.below(4_294_967_300), length).map(drop)
+                    let offset = if rng.below(2) == 0 { rng.below(3_000) } else { rng.below(4_294_967_300) };
+                    s.write(stream, ppi, offset, length).map(drop)
                 }
                 5..=8 => s.send_next(clock).map(drop),
                 9 => s.expire_pending(clock).map(drop),
@@ -133,6 +134,13 @@ fn whatever_is_called_the_answers_agree() {
                     Ok(())
                 }
                 13 | 14 => sacked(&mut s, &mut oldest, &mut rng),
+                16 => {
+                    let mut out = [0xA5; 1_216];
+                    let (lent, room) = (rng.below(8_001) as usize, if rng.below(2) == 0 { rng.below(40) as usize } else { out.len() });
+                    let written = s.data_chunk(tsn, &[1; 8_000][..lent], &mut out[..room]).map(<[u8]>::len);
+                    assert!(out[*written.as_ref().unwrap_or(&0)..].iter().all(|byte| *byte == 0xA5));
+                    written.map(|length| assert_eq!(length, 16 + s.get(tsn).unwrap().length.next_multiple_of(4) as usize))
+                }
                 15 => {
                     let popped = s.pop(oldest);
                     oldest = oldest.wrapping_add(u32::from(popped.is_some()));
@@ -160,5 +168,5 @@ fn whatever_is_called_the_answers_agree() {
         return;
     }
     assert!(terminators > 100);
-    assert!([1, 2, 3, 4, 6, 8, 9, 10, 11, 13, 14].iter().all(|number| refused[*number] > 0), "{refused:?}");
+    assert!([1, 2, 3, 4, 6, 8, 9, 10, 11, 13, 14, 15, 16, 17].iter().all(|number| refused[*number] > 0), "{refused:?}");
 }

@@ -12,7 +12,7 @@ fn open(maximum: u32) -> Sender {
 }
 
 /// The number and the sentence of each, in their order.
-const SAID: [(Refusal, &str); 14] = [
+const SAID: [(Refusal, &str); 17] = [
     (Refusal::BeyondLimit, "a number is beyond its limit"),
     (Refusal::BadBounds, "the payload maximum is outside 1 to 65,515, or the RTO minimum is above the maximum"),
     (Refusal::NotOpen, "the stream is not open"),
@@ -27,6 +27,9 @@ const SAID: [(Refusal, &str); 14] = [
     (Refusal::CountFull, "the timer's count of expiries is at its limit"),
     (Refusal::BadSack, "the lent bytes are no SACK: too short, of another type, or not as long as they say"),
     (Refusal::BadBlock, "a gap block of the SACK starts at 0, starts behind its end, or ends beyond the newest entry in flight"),
+    (Refusal::NoEntry, "no entry in flight has the TSN, or it is acknowledged or abandoned"),
+    (Refusal::PayloadOutside, "the payload of the entry ends beyond the lent bytes"),
+    (Refusal::OutputShort, "the lent output is shorter than the chunk with its padding"),
 ];
 
 #[test]
@@ -37,7 +40,7 @@ fn numbers_and_sentences() {
         let error: &dyn std::error::Error = &refusal;
         assert_eq!(error.to_string(), sentence);
     }
-    assert_eq!((Refusal::from_number(0), Refusal::from_number(15), Refusal::from_number(255)), (None, None, None));
+    assert_eq!((Refusal::from_number(0), Refusal::from_number(18), Refusal::from_number(255)), (None, None, None));
 }
 
 #[test]
@@ -226,4 +229,74 @@ fn r14_a_bad_block() {
     assert_eq!(take(&mut s, &sack(0, 2, 2)), Ok(Some(20)));
     assert_eq!(take(&mut s, &sack(0, 1, 2)), Ok(Some(10)), "one before the oldest is not stale");
     assert_eq!((s.inflight_len(), s.inflight_bytes()), (2, 0));
+}
+
+/// The bytes that the chunk of a TSN takes, or the refusal, which leaves every byte of the output.
+fn chunk(s: &Sender, tsn: u32, lent: usize, room: usize) -> Result<usize, Refusal> {
+    let mut out = vec![0xA5; room];
+    let written = s.data_chunk(tsn, &vec![1; lent], &mut out).map(<[u8]>::len);
+    assert!(written.is_ok() || out.iter().all(|byte| *byte == 0xA5), "a refused call writes nothing");
+    written
+}
+
+#[test]
+fn r15_no_entry() {
+    let mut s = Sender::new(u32::MAX - 1, 0);
+    s.open_stream(1, 10).unwrap();
+    for (length, sent) in [(10, 1), (10, 1), (15, 2), (35, 2)] {
+        s.write(1, BINARY, 0, length).unwrap();
+        (0..sent).for_each(|_| assert!(s.send_next(0).unwrap().is_some()));
+    }
+    s.mark_as_acked(u32::MAX);
+    s.abandon(0).unwrap();
+    assert_eq!([u32::MAX - 1, 2, 3].map(|tsn| chunk(&s, tsn, 35, 28)), [Ok(28); 3]);
+    s.abandon(2).unwrap();
+    assert!(s.get(4).unwrap().is_terminator());
+    let unknown = [0x7FFF_FFFF, u32::MAX - 2, 5];
+    for (tsn, why) in [(u32::MAX, "acknowledged"), (0, "abandoned"), (1, "abandoned"), (2, "abandoned"), (4, "a terminator")]
+        .into_iter()
+        .chain(unknown.map(|tsn| (tsn, "not in flight")))
+    {
+        assert_eq!(chunk(&s, tsn, 35, 28), Err(Refusal::NoEntry), "{why}: {tsn}");
+        assert_eq!(chunk(&s, tsn, 0, 0), Err(Refusal::NoEntry), "before 16 and 17");
+    }
+    assert_eq!(chunk(&s, u32::MAX - 1, 35, 28), Ok(28));
+    s.pop(u32::MAX - 1).unwrap();
+    assert_eq!(chunk(&s, u32::MAX - 1, 35, 28), Err(Refusal::NoEntry), "popped");
+    s.write(1, BINARY, 0, 10).unwrap();
+    assert_eq!(chunk(&s, s.next_tsn(), 35, 28), Err(Refusal::NoEntry), "pending");
+    assert_eq!(chunk(&Sender::new(0, 0), 0, 35, 28), Err(Refusal::NoEntry), "nothing is in flight");
+}
+
+#[test]
+fn r16_a_payload_outside() {
+    let mut s = open(10);
+    s.write(1, BINARY, 100, 25).unwrap();
+    s.write(1, BINARY, 4_294_967_295, 25).unwrap();
+    while s.send_next(0).unwrap().is_some() {}
+    for (tsn, end) in [(0, 110), (1, 120), (2, 125)] {
+        assert_eq!(chunk(&s, tsn, end, 28), chunk(&s, tsn, end + 1, 28));
+        assert!(chunk(&s, tsn, end, 28).is_ok(), "its end is that of the lent bytes");
+        for lent in [0, 99, 100, end - 1] {
+            assert_eq!(chunk(&s, tsn, lent, 28), Err(Refusal::PayloadOutside), "{lent} bytes of {end}");
+            assert_eq!(chunk(&s, tsn, lent, 0), Err(Refusal::PayloadOutside), "before 17");
+        }
+    }
+    for tsn in 3..6 {
+        assert_eq!(chunk(&s, tsn, 140, 28), Err(Refusal::PayloadOutside), "its offset does not wrap");
+    }
+}
+
+#[test]
+fn r17_a_short_output() {
+    let mut s = open(1200);
+    for (tsn, length) in (0..).zip(1..=9) {
+        s.write(1, BINARY, 0, length).unwrap();
+        s.send_next(0).unwrap();
+        let whole = 16 + (length as usize).next_multiple_of(4);
+        for room in 0..whole {
+            assert_eq!(chunk(&s, tsn, 9, room), Err(Refusal::OutputShort), "{room} bytes for {length}: the padding counts");
+        }
+        assert_eq!([whole, whole + 1, 2000].map(|room| chunk(&s, tsn, 9, room)), [Ok(whole); 3]);
+    }
 }

@@ -23,3 +23,4 @@ pub mod Demand3
 pub mod Gaps
 pub mod Sacks
 pub mod Requests
+pub mod Data

@@ -3,11 +3,11 @@ use mathlib.Core.Path.{_≡_, refl, sym, ap, subst, _∙_}
 use mathlib.Core.Bool.{Bool, true, false}
 use mathlib.Core.Logic.{_⊎_, inl, inr}
 use mathlib.Core.Option.{some}
-use mathlib.Core.List.{List, [], _∷_, _++_}
-use Prim.Native.Nat.{ℕ, _-_}
+use mathlib.Core.List.{List, [], _∷_, _++_, map}
+use Prim.Native.Nat.{ℕ, _+_, _-_, _%_}
 use native.Mathlib.Omega.{arith}
 use lib.ListN.{length}
-use Rattle.limits.specs.Limits.{Room}
+use Rattle.limits.specs.Limits.{Room, tsns}
 use Rattle.limits.specs.Refusals.{badSack, badBlock}
 use Rattle.model.specs.declared.Block.{Block}
 use Rattle.model.specs.declared.Sacked.{Sacked}
@@ -15,16 +15,20 @@ use Rattle.model.specs.Lists.{if_then_else_, total}
 use Rattle.model.specs.State.{Sender, Out, fresh, same}
 use Rattle.model.specs.Messages.{write}
 use Rattle.model.specs.Rings.{pendingOf}
-use Rattle.model.specs.Calls.{Call, step, run, answers, yieldsOf}
+use Rattle.model.specs.Calls.{Call, Acknowledge, step, run, answers, yieldsOf}
 use Rattle.model.specs.Sack.{cumulativeOf, isSack, blocksIn, allWithin}
-use Rattle.model.specs.Sacks.{covered, isStale, sackCalls, bytesIn, sacking, sack}
+use Rattle.model.specs.Sacks.{covered, isStale, tsnsFrom, acknowledgedAndPopped, blockCalls, sackCalls, bytesIn, sacking, sack}
 use Rattle.model.specs.Requests.{Request, Single, ReadSack, serve, sackSingles, singles, allSingles}
-use Rattle.demands.specs.Words.{cutOf, abandons}
+use Rattle.demands.specs.Words.{Each, cutOf, abandons}
 use Rattle.demands.specs.Demand3.{Demand3}
 use Rattle.demands.specs.Kept.{NothingLostFrom, Final}
 use Rattle.demands.specs.States.{Kept}
+use Rattle.demands.specs.Numbers.{Typed, Fits}
 use Rattle.demands.specs.Sacks.{SacksLeave}
-use Rattle.demands.specs.Requests.{AreSingleCalls, servedFrom, RequestsFromFresh, EveryStateServed, NothingLostServed, AbandonedIsFinalServed}
+use Rattle.demands.specs.Requests.{AreSingleCalls, servedFrom, TypedRequest, RequestsFromFresh, EveryStateServed, NumbersFitServed, NothingLostServed, AbandonedIsFinalServed}
+use Rattle.demands.proofs.Basic.{if-case}
+use Rattle.demands.proofs.Each.{each-append}
+use Rattle.demands.proofs.Fits.{numbers-fit}
 use Rattle.demands.proofs.Sacks.{run-append}
 use Rattle.demands.proofs.States.{every-state}
 use Rattle.demands.proofs.Final.{abandoned-is-final}
@@ -80,6 +84,40 @@ requests-from-fresh room h t n o rs = subst (Demand3 room) (from room t n rs) (f
 
 pub every-state-served : EveryStateServed
 every-state-served room t n rs = subst (Kept room) (from room t n rs) (every-state room t n (calls room t n rs))
+
+-- the single calls of requests whose arguments fit have arguments that fit; a TSN that a SACK names is any number
+pops-typed : (l : List ℕ) → Each Typed (acknowledgedAndPopped l)
+pops-typed [] = tt
+pops-typed (t ∷ l) = (tt, (tt, pops-typed l))
+
+acknowledgements-typed : (l : List ℕ) → Each Typed (map Acknowledge l)
+acknowledgements-typed [] = tt
+acknowledgements-typed (t ∷ l) = (tt, acknowledgements-typed l)
+
+blocks-typed : (t : ℕ) (l : List Block) → Each Typed (blockCalls t l)
+blocks-typed t [] = tt
+blocks-typed t (b ∷ l) =
+    each-append Typed (map Acknowledge (tsnsFrom (b .end + 1 - b .start) ((t + b .start) % tsns))) (blockCalls t l)
+    (acknowledgements-typed (tsnsFrom (b .end + 1 - b .start) ((t + b .start) % tsns))) (blocks-typed t l)
+
+singles-typed : (r : Request) (s : Sender) → TypedRequest r → Each Typed (singles r s)
+singles-typed (Single k) s h = (h, tt)
+singles-typed (ReadSack p) s h =
+    let t = cumulativeOf p in
+    let l = blocksIn p in
+    if-case (Each Typed) (isSack p)
+    (λ _. if-case (Each Typed) (isStale t (s .flight)) (λ _. tt)
+    (λ _. if-case (Each Typed) (allWithin (length (s .flight .entries) - covered t (s .flight)) l)
+    (λ _. each-append Typed (acknowledgedAndPopped (tsnsFrom (covered t (s .flight)) (s .flight .oldest))) (blockCalls t l) (pops-typed (tsnsFrom (covered t (s .flight)) (s .flight .oldest))) (blocks-typed t l))
+    (λ _. tt)))
+    (λ _. tt)
+
+all-typed : (room : Room) (rs : List Request) (s : Sender) → Each TypedRequest rs → Each Typed (allSingles room rs s)
+all-typed room [] s h = tt
+all-typed room (r ∷ rs) s h = each-append Typed (singles r s) (allSingles room rs (serve room r s .after)) (singles-typed r s (h .0)) (all-typed room rs (serve room r s .after) (h .1))
+
+pub numbers-fit-served : NumbersFitServed
+numbers-fit-served room t n h i rs ty = subst (Fits room) (from room t n rs) (numbers-fit room t n h i (calls room t n rs) (all-typed room rs (fresh t n) ty))
 
 pub nothing-lost-served : NothingLostServed
 nothing-lost-served room t n rs id p o l st found acc h qs x a =

@@ -9,3 +9,4 @@ pub mod Rfc9260
 pub mod Refusals
 pub mod Sacks
 pub mod Requests
+pub mod Data

@@ -19,10 +19,11 @@ use Rattle.model.specs.declared.Found.{Found}
 use Rattle.model.specs.declared.Listed.{Listed}
 use Rattle.model.specs.declared.Earliest.{Earliest}
 use Rattle.model.specs.declared.Amount.{Amount}
+use Rattle.model.specs.declared.Laid.{Laid}
 use Rattle.model.specs.declared.Counted.{Counted}
 use Rattle.model.specs.declared.Sacked as Model
 use Rattle.model.specs.Lists.{if_then_else_}
-use Rattle.model.specs.Told.{chunkValues, toldDone, toldWritten, toldReleased, toldListed, toldEarliest, toldAmount, toldCounted, toldSent, toldFound, toldExpired, toldTail, toldAbandoned, toldSacked}
+use Rattle.model.specs.Told.{chunkValues, toldDone, toldWritten, toldReleased, toldListed, toldEarliest, toldAmount, toldCounted, toldSent, toldFound, toldExpired, toldTail, toldAbandoned, toldSacked, toldLaid}
 use Rattle.flat.specs.declared.Reply.{Reply}
 use Rattle.flat.specs.declared.Freed.{Freed}
 use Rattle.flat.specs.declared.Fragment.{Fragment}
@@ -84,6 +85,10 @@ flatMoment a = numberIn (tellsMoment a)
 
 abbrev pub flatAmount : Amount → Reply
 flatAmount a = numberIn (toldAmount a)
+
+-- the bytes that a chunk takes, or the refusal alone
+abbrev pub flatLaid : Laid → Reply
+flatLaid a = numberIn (toldLaid a)
 
 -- 01's number, and the messages and the bytes
 abbrev pub countsIn : Told → Counts

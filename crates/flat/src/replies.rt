@@ -12,13 +12,14 @@ use model::Done;
 use model::Earliest;
 use model::Expired;
 use model::Found;
+use model::Laid;
 use model::Listed;
 use model::Released;
 use model::Sent;
 use model::TailExpired;
 use model::Written;
 ghost use mathlib.Core.Path.{_≡_};
-ghost use Rattle.flat.specs.Replies.{present, timeOf, onlyNumber, yesOrNo, numberIs, flatDone, flatWritten, flatReleased, flatListed, flatEarliest, flatMoment, flatAmount};
+ghost use Rattle.flat.specs.Replies.{present, timeOf, onlyNumber, yesOrNo, numberIs, flatDone, flatWritten, flatReleased, flatListed, flatEarliest, flatMoment, flatAmount, flatLaid};
 ghost use Rattle.flat.specs.Replies.{flatCounted, fragmentOf, noFragment, flatSent, flatFound, noneFreed, flatExpired, flatTail, flatAbandoned, noneSacked, flatSacked};
 
 // ---- numbers, yes and no
@@ -113,6 +114,15 @@ pub fn amount(a: Amount) -> Reply
     match a {
         Amount::Is(n) => number(n),
         Amount::Refused(n) => only(n),
+    }
+}
+
+pub fn laid(a: Laid) -> Reply
+    ensures { λ r. ⌜ r ≡ flatLaid a ⌝ }
+{
+    match a {
+        Laid::Bytes(n) => number(n as u64),
+        Laid::Refused(n) => only(n),
     }
 }
 

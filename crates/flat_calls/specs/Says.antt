@@ -14,6 +14,7 @@ use Rattle.flat.specs.declared.Sacked.{Sacked}
 use Rattle.flat.specs.Replies.{flatAbandoned, flatAmount, flatCounted, flatDone, flatEarliest, flatExpired, flatFound, flatMoment, flatReleased, flatSacked, flatSent, flatTail, flatWritten, numberIs, onlyNumber, refusalOfFragment, refusalOfFreed, refusalOfReply, refusalOfSacked, yesOrNo}
 use Rattle.flat.specs.Calls.{Makes, Goes, Leans, GoesOrStays, LeansOrStays, doing, Asks, Sums}
 use Rattle.flat_calls.specs.Listing.{Lists}
+use Rattle.flat_calls.specs.Chunks.{Lays}
 use mathlib.Core.List.{_++_}
 use Prim.Native.Nat.{_+_}
 use lib.ListN.{length}
@@ -23,6 +24,7 @@ use Rattle.model.specs.Messages.{write}
 use Rattle.model.specs.Rings.{startLifetimes, send, expirePending, expirePendingTail, abandon, expiredInflight, head, bytes}
 use Rattle.model.specs.Flight.{acknowledge, pop, markAll, found, isAbandoned, earliestOutstanding, hasStream}
 use Rattle.model.specs.Sacks.{sack}
+use Rattle.model.specs.Data.{dataChunk}
 use Rattle.sender_asks.specs.Beside.{oldestTsn, ringLeft, nextDeadline}
 use Rattle.outbound_send.specs.Lean.{leanStart, leanSend}
 use Rattle.outbound_abandon.specs.Lean.{leanAbandon}
@@ -102,6 +104,12 @@ MarkAllToRetransmit = Goes onlyNumber (doing markAll)
 -- The TSNs in flight whose message has expired, in the front of the lent list; the value is how many. What is pending and in flight stays. Refusals: 1, 11.
 abbrev pub ExpiredInflight : Room → (list : List ℕ) → (clock : ℕ) → Head → List ℕ → Head → List ℕ → List ℕ → Reply → Type 0
 ExpiredInflight room list clock = Lists room list (leanList clock) (expiredInflight clock)
+
+-- ---- chunks for the wire
+
+-- The DATA chunk of a TSN in flight (RFC 9260, section 3.3.1) in the front of `out`: its payload is copied from `bytes` by the entry's offset and length, and zeros fill it up to a multiple of four; what stands behind stays. The value is how many bytes the chunk takes. Refusals: 15, 16, 17.
+abbrev pub DataChunk : (bytes out : List ℕ) → (tsn : ℕ) → Head → List ℕ → List ℕ → Reply → Type 0
+DataChunk bytes out tsn = Lays out (dataChunk tsn bytes)
 
 -- ---- questions
 

@@ -10,8 +10,9 @@ use flat::SaidSacked;
 use sender_head::Head;
 ghost use Rattle.sender_head.specs.Whole.{roomIn};
 ghost use Rattle.flat_calls.specs.Says.{Init, OpenStream, SetReliabilityParams, SetBufferedAmountLowThreshold, SetBufferedAmountHighThreshold, OnBufferReleased, Write, StartTimedMessages, SendNext, ExpirePending, ExpirePendingTail, Abandon};
-ghost use Rattle.flat_calls.specs.Says.{MarkAsAcked, Pop, HandleSack, MarkAllToRetransmit, ExpiredInflight, Get, IsAbandoned, PeekPending, NextMessageId, NextTsn, PendingLen, PendingBytes};
-ghost use Rattle.flat_calls.specs.Says.{InflightLen, InflightBytes, EarliestOutstandingTsn, PendingContainsStream, ContainsStream, BufferedAmount, BufferedAmountLowThreshold, BufferedAmountHighThreshold, Stats, OldestTsn, RingRoom, NextDeadline};
+ghost use Rattle.flat_calls.specs.Says.{MarkAsAcked, Pop, HandleSack, MarkAllToRetransmit, ExpiredInflight, DataChunk, Get, IsAbandoned, PeekPending, NextMessageId, NextTsn, PendingLen};
+ghost use Rattle.flat_calls.specs.Says.{PendingBytes, InflightLen, InflightBytes, EarliestOutstandingTsn, PendingContainsStream, ContainsStream, BufferedAmount, BufferedAmountLowThreshold, BufferedAmountHighThreshold, Stats, OldestTsn, RingRoom};
+ghost use Rattle.flat_calls.specs.Says.{NextDeadline};
 
 // A fresh sender, whatever the bytes were: the first chunk takes the TSN `tsn`, the first message the number `number`. The cells stay.
 pub fn init(head: Head, cells: &mut [u64], tsn: u32, number: u64) -> Said
@@ -271,6 +272,14 @@ pub fn expired_inflight(head: Head, cells: &mut [u64], list: &mut [u32], clock: 
         head: rest,
         reply: reply,
     }
+}
+
+// The DATA chunk of a TSN in flight (RFC 9260, section 3.3.1) in the front of `out`: its payload is copied from `bytes` by the entry's offset and length, and zeros fill it up to a multiple of four; what stands behind stays. The value is how many bytes the chunk takes. Refusals: 15, 16, 17.
+pub fn data_chunk(head: Head, cells: &[u64], bytes: &[u8], out: &mut [u8], tsn: u32) -> Reply
+    ensures { λ r. ⌜ DataChunk (now (bytes .entry)) (now (out .entry)) tsn head (now (cells .entry)) (now (out .exit)) r ⌝ }
+{
+    let answer = sender_asks::chunks::data_chunk(head, cells, bytes, out, tsn);
+    flat::replies::laid(answer)
 }
 
 // The entry of a TSN.

@@ -5,21 +5,23 @@ use mathlib.Core.Option.{some}
 use mathlib.Core.List.{List}
 use Prim.Native.Nat.{ℕ, _≤_, _<_}
 use lib.ListN.{length}
-use Rattle.limits.specs.Limits.{clockMax, tsns}
+use Rattle.limits.specs.Limits.{clockMax, numberMax, tsns}
 use Rattle.model.specs.declared.Chunk.{Chunk}
 use Rattle.model.specs.State as State
 use Rattle.model.specs.State.{nextTsn}
 use Rattle.model.specs.Rings.{head}
 use Rattle.model.specs.Requests.{Request}
-use Rattle.demands.specs.Words.{SomePending}
+use Rattle.demands.specs.Words.{SomePending, Each}
 use Rattle.demands.specs.Demand3.{sentBy}
+use Rattle.demands.specs.Requests.{TypedRequest}
+use Rattle.demands.specs.Data.{ToSend, ReadsBack}
 use Rattle.sender_head.specs.Whole.{senderOf, Counted}
 use Rattle.sender.specs.Runs.{Run, AsModel}
 use Rattle.flat.specs.declared.Reply.{Reply}
 use Rattle.flat.specs.declared.Fragment.{Fragment}
 use Rattle.flat.specs.Replies.{fragmentOf}
 use Rattle.lent.specs.declared.Sender.{Sender}
-use Rattle.lent.specs.Says.{Init, SendNext}
+use Rattle.lent.specs.Says.{Init, SendNext, DataChunk}
 use Rattle.lent.specs.Called.{Called}
 
 -- the model's sender
@@ -47,3 +49,11 @@ YieldsBelow255 =
     → (y : Fragment) → SendNext clock s s′ y
     → (y .some ≡ true) × (y .tsn ≡ nextTsn (stateOf s))
     × ((d : Chunk) × (head (stateOf s .pending) ≡ some d) × (y ≡ fragmentOf (nextTsn (stateOf s)) (sentBy clock (stateOf s) d)))
+
+-- behind any calls and SACKs whose arguments fit their types, whatever is lent: where `girdermoth_data_chunk` answers yes, the output begins with the
+-- chunk of the TSN's entry, of `value` bytes, and it reads back as that
+abbrev pub WritesReadBack : Type 0
+WritesReadBack =
+    (tsn number : ℕ) → tsn < tsns → number ≤ numberMax → (rs : List Request) → Each TypedRequest rs → (s : Sender) → Reached tsn number rs s
+    → (bytes out : List ℕ) (t : ℕ) (out′ : List ℕ) (y : Reply) → DataChunk bytes out t s out′ y → y .yes ≡ true
+    → (c : Chunk) × ToSend t (stateOf s) c × ReadsBack t c bytes out (y .value) out′

@@ -87,6 +87,12 @@ MarkAllToRetransmit s s′ y = Flat.MarkAllToRetransmit (s .head) (s .cells) (s�
 abbrev pub ExpiredInflight : (list : List ℕ) → (clock : ℕ) → Sender → Sender → List ℕ → Reply → Type 0
 ExpiredInflight list clock s s′ list′ y = Flat.ExpiredInflight room01 list clock (s .head) (s .cells) (s′ .head) (s′ .cells) list′ y
 
+-- ---- chunks for the wire
+
+-- The DATA chunk of a TSN in flight (RFC 9260, section 3.3.1) in the front of `out`: its payload is copied from `bytes` by the entry's offset and length, and zeros fill it up to a multiple of four; what stands behind stays. The value is how many bytes the chunk takes. Refusals: 15, 16, 17.
+abbrev pub DataChunk : (bytes out : List ℕ) → (tsn : ℕ) → Sender → List ℕ → Reply → Type 0
+DataChunk bytes out tsn s out′ y = Flat.DataChunk bytes out tsn (s .head) (s .cells) out′ y
+
 -- ---- questions
 
 -- The entry of a TSN.

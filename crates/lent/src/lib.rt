@@ -8,8 +8,9 @@ use flat::Reply;
 use flat::Sacked;
 use sender_head::Head;
 ghost use Rattle.lent.specs.Says.{Init, OpenStream, SetReliabilityParams, SetBufferedAmountLowThreshold, SetBufferedAmountHighThreshold, OnBufferReleased, Write, StartTimedMessages, SendNext, ExpirePending, ExpirePendingTail, Abandon};
-ghost use Rattle.lent.specs.Says.{MarkAsAcked, Pop, HandleSack, MarkAllToRetransmit, ExpiredInflight, Get, IsAbandoned, PeekPending, NextMessageId, NextTsn, PendingLen, PendingBytes};
-ghost use Rattle.lent.specs.Says.{InflightLen, InflightBytes, EarliestOutstandingTsn, PendingContainsStream, ContainsStream, BufferedAmount, BufferedAmountLowThreshold, BufferedAmountHighThreshold, Stats, OldestTsn, RingRoom, NextDeadline};
+ghost use Rattle.lent.specs.Says.{MarkAsAcked, Pop, HandleSack, MarkAllToRetransmit, ExpiredInflight, DataChunk, Get, IsAbandoned, PeekPending, NextMessageId, NextTsn, PendingLen};
+ghost use Rattle.lent.specs.Says.{PendingBytes, InflightLen, InflightBytes, EarliestOutstandingTsn, PendingContainsStream, ContainsStream, BufferedAmount, BufferedAmountLowThreshold, BufferedAmountHighThreshold, Stats, OldestTsn, RingRoom};
+ghost use Rattle.lent.specs.Says.{NextDeadline};
 
 // 64 streams, and 256 slots in each ring and in the flight.
 #[repr(C)]
@@ -223,6 +224,16 @@ pub extern "C" fn girdermoth_expired_inflight(s: &mut Sender, list: &mut [u32], 
     let r = flat_calls::expired_inflight(s.head, &mut s.cells, list, clock);
     s.head = r.head;
     r.reply
+}
+
+// ---- chunks for the wire
+
+// The DATA chunk of a TSN in flight (RFC 9260, section 3.3.1) in the front of `out`: its payload is copied from `bytes` by the entry's offset and length, and zeros fill it up to a multiple of four; what stands behind stays. The value is how many bytes the chunk takes. Refusals: 15, 16, 17.
+#[no_mangle]
+pub extern "C" fn girdermoth_data_chunk(s: &Sender, bytes: &[u8], out: &mut [u8], tsn: u32) -> Reply
+    ensures { λ r. ⌜ DataChunk (now (bytes .entry)) (now (out .entry)) tsn (now (s .entry)) (now (out .exit)) r ⌝ }
+{
+    flat_calls::data_chunk(s.head, &s.cells, bytes, out, tsn)
 }
 
 // ---- questions

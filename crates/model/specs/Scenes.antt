@@ -4,11 +4,13 @@ use Prim.Native.Nat.{ℕ}
 use mathlib.Core.Bool.{Bool, true, false}
 use mathlib.Core.Path.{_≡_}
 use mathlib.Core.List.{List, [], _∷_, _++_}
+use lib.ListN.{replicate}
 use Rattle.limits.specs.Limits.{Room}
 use Rattle.model.specs.declared.Abandoned.{Abandoned}
 use Rattle.model.specs.declared.Chunk.{Chunk}
 use Rattle.model.specs.declared.Expired.{Expired}
 use Rattle.model.specs.declared.Found.{Found}
+use Rattle.model.specs.declared.Laid.{Laid}
 use Rattle.model.specs.declared.Sacked.{Sacked}
 use Rattle.model.specs.declared.Sent.{Sent}
 use Rattle.model.specs.declared.TailExpired.{TailExpired}
@@ -48,6 +50,7 @@ use Rattle.model.specs.Calls.{
 use Rattle.model.specs.Rings.{tsnsAre, refused}
 use Rattle.model.specs.Lists.{if_then_else_}
 use Rattle.model.specs.Sacks.{sack}
+use Rattle.model.specs.Data.{dataChunk}
 
 abbrev pub small : Room
 small = record { streams = 2; message = 12; ring = 4; flight = 4 }
@@ -231,6 +234,49 @@ acknowledgedInGaps =
     ∷ (bytesOfSack 16 (0 ∷ 0 ∷ 0 ∷ 0 ∷ []) 0 [] answers 0 ∷ [])
     ∷ []
 
+-- ---- DATA chunks
+
+-- a TSN, the bytes and the output that are lent, and what should come of it: 1 and how many bytes, or 99 and its number for a refusal; the output
+pub record Wrote : Type 0 where
+  pub tsn : ℕ
+  pub bytes : List ℕ
+  pub out : List ℕ
+  pub row : List ℕ
+  pub after : List ℕ
+
+abbrev pub laidRow : Laid → List ℕ
+laidRow (Laid.Bytes n) = 1 ∷ n ∷ []
+laidRow (Laid.Refused n) = 99 ∷ n ∷ []
+
+-- the same with what the model answers and leaves
+abbrev pub writing : List Wrote → Sender → List Wrote
+writing [] s = []
+writing (x ∷ l) s =
+    let o = dataChunk (x .tsn) (x .bytes) (x .out) s in
+    record { tsn = x .tsn; bytes = x .bytes; out = x .out; row = laidRow (o .answer); after = o .out } ∷ writing l s
+
+-- so many nines
+abbrev pub nines : ℕ → List ℕ
+nines n = replicate n 9
+
+-- Four bytes from the third on are two chunks, of 3 bytes and of 1, with the TSNs 4294967295 and 0; the first is written with one zero behind its
+-- payload, and the byte behind that stays; the second with three. Its payload is not within five bytes, and its chunk not within 19.
+abbrev pub dataOfTwo : List Wrote
+dataOfTwo =
+    record { tsn = 4294967295; bytes = 10 ∷ 11 ∷ 12 ∷ 13 ∷ 14 ∷ 15 ∷ []; out = nines 21; row = 1 ∷ 20 ∷ []; after = 0 ∷ 2 ∷ 0 ∷ 19 ∷ 255 ∷ 255 ∷ 255 ∷ 255 ∷ 0 ∷ 1 ∷ 0 ∷ 0 ∷ 0 ∷ 0 ∷ 0 ∷ 53 ∷ 12 ∷ 13 ∷ 14 ∷ 0 ∷ 9 ∷ [] }
+    ∷ record { tsn = 0; bytes = 10 ∷ 11 ∷ 12 ∷ 13 ∷ 14 ∷ 15 ∷ []; out = nines 20; row = 1 ∷ 20 ∷ []; after = 0 ∷ 1 ∷ 0 ∷ 17 ∷ 0 ∷ 0 ∷ 0 ∷ 0 ∷ 0 ∷ 1 ∷ 0 ∷ 0 ∷ 0 ∷ 0 ∷ 0 ∷ 53 ∷ 15 ∷ 0 ∷ 0 ∷ 0 ∷ [] }
+    ∷ record { tsn = 0; bytes = 10 ∷ 11 ∷ 12 ∷ 13 ∷ 14 ∷ []; out = nines 19; row = 99 ∷ 16 ∷ []; after = nines 19 }
+    ∷ record { tsn = 0; bytes = 10 ∷ 11 ∷ 12 ∷ 13 ∷ 14 ∷ 15 ∷ []; out = nines 19; row = 99 ∷ 17 ∷ []; after = nines 19 }
+    ∷ []
+
+-- A terminator, what is acknowledged and what was never sent have no chunk to write; that is told before anything else.
+abbrev pub noData : List Wrote
+noData =
+    record { tsn = 4294967294; bytes = []; out = nines 1; row = 99 ∷ 15 ∷ []; after = nines 1 }
+    ∷ record { tsn = 4294967295; bytes = []; out = nines 1; row = 99 ∷ 15 ∷ []; after = nines 1 }
+    ∷ record { tsn = 1; bytes = []; out = nines 1; row = 99 ∷ 15 ∷ []; after = nines 1 }
+    ∷ []
+
 -- ---- the claim
 
 -- from the opened sender on, with first TSN 7 and first message number 0, a scene goes as written
@@ -241,6 +287,11 @@ Goes l = played l (run small opening (fresh 7 0)) ≡ l
 abbrev pub threeSent : Sender
 threeSent = run small (Write 1 53 0 9 ∷ Send 0 ∷ Send 0 ∷ Send 0 ∷ []) (run small opening (fresh 4294967294 0))
 
+-- a terminator is in flight, and behind it a message of two chunks
+abbrev pub twoToSend : Sender
+twoToSend =
+    run small (Write 2 53 0 4 ∷ Send 0 ∷ Abandon 4294967293 ∷ Pop 4294967293 ∷ Write 1 53 2 4 ∷ Send 0 ∷ Send 0 ∷ []) (run small opening (fresh 4294967293 0))
+
 -- Every scene does.
 pub record Scenes : Type 0 where
   pub cutOff : Goes cutOff
@@ -249,3 +300,5 @@ pub record Scenes : Type 0 where
   pub expiry : Goes expiry
   pub tail : Goes tail
   pub acknowledgedInGaps : reading acknowledgedInGaps threeSent ≡ acknowledgedInGaps
+  pub dataOfTwo : writing dataOfTwo twoToSend ≡ dataOfTwo
+  pub noData : writing noData (run small (Acknowledge 4294967295 ∷ []) twoToSend) ≡ noData

@@ -16,6 +16,7 @@ use Rattle.model.specs.declared.Expired.{Expired}
 use Rattle.model.specs.declared.TailExpired.{TailExpired}
 use Rattle.model.specs.declared.Abandoned.{Abandoned}
 use Rattle.model.specs.declared.Found.{Found}
+use Rattle.model.specs.declared.Laid.{Laid}
 use Rattle.model.specs.declared.Listed.{Listed}
 use Rattle.model.specs.declared.Earliest.{Earliest}
 use Rattle.model.specs.declared.Amount.{Amount}
@@ -123,3 +124,8 @@ abbrev pub toldSacked : Sacked → Told
 toldSacked (Sacked.Released b) = tellsNumber b
 toldSacked Sacked.Stale = tells []
 toldSacked (Sacked.Refused n) = refusing n
+
+-- a chunk that is written: how many bytes it takes
+abbrev pub toldLaid : Laid → Told
+toldLaid (Laid.Bytes n) = tellsNumber n
+toldLaid (Laid.Refused n) = refusing n

@@ -1,5 +1,5 @@
 -- Each request by value follows the model's, so all of them do.
-use mathlib.Core.Path.{_≡_, ap, _∙_}
+use mathlib.Core.Path.{_≡_, sym, ap, subst, _∙_}
 use native.Mathlib.Omega.{arith}
 use Rattle.limits.specs.Limits.{room01}
 use Rattle.model.specs.declared.Sent.{Sent}
@@ -7,11 +7,13 @@ use Rattle.model.specs.State.{Out}
 use Rattle.model.specs.Rings.{send}
 use Rattle.model.specs.Calls.{Open, SetReliability, SetLow, SetHigh, Write, Release, StartLifetimes, Send, ExpirePending, ExpirePendingTail, Abandon, Acknowledge, Pop, MarkAll, Ask}
 use Rattle.model.specs.Requests.{Request, Single, ReadSack}
+use Rattle.model.specs.Data.{Output}
+use Rattle.demands.specs.Data.{ReadsBack}
 use Rattle.sender.specs.declared.Sender.{Sender}
 use Rattle.sender.specs.Value.{stateOf, Sums}
 use Rattle.sender.specs.Runs.{Follows}
-use Rattle.sender.specs.Reached.{Called, ValueRuns, YieldsBelow255}
-use Rattle.sender.proofs.Runs.{gone, leant, stayed, as-model}
+use Rattle.sender.specs.Reached.{Called, ValueRuns, YieldsBelow255, WritesReadBack}
+use Rattle.sender.proofs.Runs.{gone, leant, stayed, as-model, written-back}
 
 follows : (r : Request) (s s′ : Sender) → Called r s s′ → Follows stateOf Sums r s s′
 follows (Single (Open id m)) s s′ d = gone (d .1 .0 .0)
@@ -40,3 +42,9 @@ yields-below-255 tsn number h rs s s′ r clock c p f a d =
     let y = m .demand3 .yield clock c p (omega (arith, f)) in
     let e : a ≡ send room01 clock (stateOf s) .says = ap (λ (o : Out Sent). o .says) (d .0 .0 .1 (m .good)) in
     (y .0, y .1, e ∙ y .2)
+
+pub writes-read-back : WritesReadBack
+writes-read-back tsn number h k rs ty s r bytes out t out′ n d =
+    let m = value-runs tsn number h rs s r in
+    let w = written-back tsn number h k rs ty (stateOf s) (m .state) t bytes out n (sym (ap (λ (o : Output). o .answer) d)) in
+    (w .0, w .1, subst (ReadsBack t (w .0) bytes out n) (sym (ap (λ (o : Output). o .out) d)) (w .2))

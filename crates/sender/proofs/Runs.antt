@@ -1,13 +1,20 @@
 -- By induction on the requests: before each of them the state is one that the model reaches, so `Good`.
 use mathlib.Core.Path.{_≡_, sym, ap, subst, _∙_}
 use mathlib.Core.List.{List, [], _∷_}
-use Prim.Native.Nat.{ℕ, _<_}
+use Prim.Native.Nat.{ℕ, _≤_, _<_}
 use native.Mathlib.Omega.{arith}
-use Rattle.limits.specs.Limits.{Room, room01, tsns}
+use Rattle.limits.specs.Limits.{Room, room01, numberMax, tsns}
+use Rattle.model.specs.declared.Chunk.{Chunk}
+use Rattle.model.specs.declared.Laid.{Laid}
 use Rattle.model.specs.State.{Sender, Out, fresh, same}
 use Rattle.model.specs.Requests.{Request, serve, served}
+use Rattle.model.specs.Data.{dataChunk}
+use Rattle.demands.specs.Words.{Each}
 use Rattle.demands.specs.Demand3.{Demand3}
+use Rattle.demands.specs.Requests.{TypedRequest}
+use Rattle.demands.specs.Data.{ToSend, ReadsBack}
 use Rattle.demands.proofs.Requests.{requests-from-fresh, every-state-served}
+use Rattle.demands.proofs.Data.{written-reads-back}
 use Rattle.outbound_queue.specs.Outbound.{Good, Does, kept-good}
 use Rattle.sender.specs.Runs.{Run, Follows, AsModel}
 
@@ -48,3 +55,11 @@ module _ {S : Type 0} (state : S → Sender) (Sums : S → Type 0) where
           good = subst (Good room01) (sym (f .0)) (good rs);
           demand3 = subst (Demand3 room01) (sym (f .0)) (requests-from-fresh room01 (omega arith) tsn number h rs);
         }
+
+-- ---- a DATA chunk of the state behind them
+
+pub written-back : (tsn number : ℕ) → tsn < tsns → number ≤ numberMax → (rs : List Request) → Each TypedRequest rs → (s : Sender) → s ≡ served room01 rs (fresh tsn number)
+    → (t : ℕ) (bytes out : List ℕ) (n : ℕ) → dataChunk t bytes out s .answer ≡ Laid.Bytes n → (c : Chunk) × ToSend t s c × ReadsBack t c bytes out n (dataChunk t bytes out s .out)
+written-back tsn number h k rs ty s e t bytes out n =
+    subst (λ (z : Sender). dataChunk t bytes out z .answer ≡ Laid.Bytes n → (c : Chunk) × ToSend t z c × ReadsBack t c bytes out n (dataChunk t bytes out z .out)) (sym e)
+    (written-reads-back room01 tsn number h k rs ty t bytes out n)

@@ -4,7 +4,7 @@ use mathlib.Core.Option.{some}
 use mathlib.Core.List.{List}
 use Prim.Native.Nat.{ℕ, _≤_, _<_}
 use lib.ListN.{length}
-use Rattle.limits.specs.Limits.{room01, clockMax, tsns}
+use Rattle.limits.specs.Limits.{room01, clockMax, numberMax, tsns}
 use Rattle.model.specs.declared.Chunk.{Chunk}
 use Rattle.model.specs.declared.Done.{Done}
 use Rattle.model.specs.declared.Written.{Written}
@@ -14,6 +14,7 @@ use Rattle.model.specs.declared.Expired.{Expired}
 use Rattle.model.specs.declared.TailExpired.{TailExpired}
 use Rattle.model.specs.declared.Abandoned.{Abandoned}
 use Rattle.model.specs.declared.Found.{Found}
+use Rattle.model.specs.declared.Laid.{Laid}
 use Rattle.model.specs.declared.Sacked.{Sacked}
 use Rattle.model.specs.State.{fresh, nextTsn}
 use Rattle.model.specs.Streams.{openStream, setReliability, setLow, setHigh, release}
@@ -24,8 +25,11 @@ use Rattle.model.specs.Sacks.{sack}
 use Rattle.model.specs.Calls.{Open, SetReliability, SetLow, SetHigh, Write, Release, StartLifetimes, Send, ExpirePending, ExpirePendingTail, Abandon, Acknowledge, Pop, MarkAll, Ask}
 use Rattle.model.specs.Requests.{Request, Single, ReadSack}
 use Rattle.model.specs.Told.{toldDone, toldWritten, toldReleased, toldSent, toldExpired, toldTail, toldAbandoned, toldFound, toldSacked, tellsNumber}
-use Rattle.demands.specs.Words.{SomePending}
+use Rattle.model.specs.Data.{dataChunk}
+use Rattle.demands.specs.Words.{SomePending, Each}
 use Rattle.demands.specs.Demand3.{sentBy}
+use Rattle.demands.specs.Requests.{TypedRequest}
+use Rattle.demands.specs.Data.{ToSend, ReadsBack}
 use Rattle.outbound_send.specs.Lean.{leanStart, leanSend}
 use Rattle.outbound_abandon.specs.Lean.{leanAbandon}
 use Rattle.outbound_abandon.specs.LeanExpiry.{leanExpire, leanExpireTail}
@@ -68,3 +72,11 @@ YieldsBelow255 =
     → (clock : ℕ) → clock ≤ clockMax → SomePending (stateOf s) → length (stateOf s .flight .entries) < 255
     → (a : Sent) → Leans toldSent (leanSend room01 clock) (send room01 clock) s s′ a
     → (d : Chunk) × (head (stateOf s .pending) ≡ some d) × (a ≡ Sent.Yielded (nextTsn (stateOf s)) (sentBy clock (stateOf s) d))
+
+-- behind any calls and SACKs whose arguments fit their types, whatever is lent: where `data_chunk` answers bytes, they are the chunk of the TSN's
+-- entry, and read back as that
+abbrev pub WritesReadBack : Type 0
+WritesReadBack =
+    (tsn number : ℕ) → tsn < tsns → number ≤ numberMax → (rs : List Request) → Each TypedRequest rs → (s : Sender) → Reached tsn number rs s
+    → (bytes out : List ℕ) (t : ℕ) (out′ : List ℕ) (n : ℕ) → record { answer = Laid.Bytes n; out = out′ } ≡ dataChunk t bytes out (stateOf s)
+    → (c : Chunk) × ToSend t (stateOf s) c × ReadsBack t c bytes out n out′

@@ -1,13 +1,15 @@
-// What is asked of a sender by value: nothing changes. Each answer is the model's (`answer` of model/specs/Calls), of every sender; the two of
-// bytes are the kept counters, and the model's where these are sums (`Sums`).
+// What is asked of a sender by value, a DATA chunk among it: nothing changes. Each answer is the model's (`answer` of model/specs/Calls, and
+// `dataChunk` of Data), of every sender; the two of bytes are the kept counters, and the model's where these are sums (`Sums`).
 use super::Sender;
 use model::Earliest;
 use model::Found;
+use model::Laid;
 ghost use mathlib.Core.Path.{_≡_};
 ghost use lib.ListN.{length};
 ghost use Rattle.model.specs.State.{inFlight, nextTsn};
 ghost use Rattle.model.specs.Rings.{head, bytes};
 ghost use Rattle.model.specs.Flight.{found, isAbandoned, hasStream, earliestOutstanding};
+ghost use Rattle.model.specs.Data.{dataChunk};
 ghost use Rattle.sender.specs.Value.{stateOf, Sums};
 ghost use Rattle.pending_queue.specs.Queue.{bytesIn};
 ghost use Rattle.outbound_queue.specs.Calls.{chunksOf, allChunks, countOf};
@@ -18,6 +20,15 @@ pub fn get(s: Sender, tsn: u32) -> Found
 {
     let cells = s.cells;
     sender_asks::get(s.head, &cells, tsn)
+}
+
+// The DATA chunk of a TSN that is neither acknowledged nor abandoned, in the front of the lent output; the rest of that stays. Its payload is
+// copied from the caller's bytes. Refusals: 15, 16, 17.
+pub fn data_chunk(s: Sender, bytes: &[u8], out: &mut [u8], tsn: u32) -> Laid
+    ensures { λ r. ⌜ record { answer = r; out = now (out .exit) } ≡ dataChunk tsn (now (bytes .entry)) (now (out .entry)) (stateOf s) ⌝ }
+{
+    let cells = s.cells;
+    sender_asks::chunks::data_chunk(s.head, &cells, bytes, out, tsn)
 }
 
 // No for a TSN that is not in flight.

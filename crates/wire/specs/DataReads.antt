@@ -1,13 +1,11 @@
 -- The ways out of a DATA chunk's reader, one test after the other.
-use mathlib.Core.Path.{_≡_, sym, ap, _∙_}
-use mathlib.Core.Bool.{Bool, true, false, _&&_}
+use mathlib.Core.Path.{_≡_, sym, ap}
+use mathlib.Core.Bool.{Bool, true, false}
 use mathlib.Core.List.{List}
-use Prim.Native.Nat.{ℕ, _-_, _≤_, _<_}
-use native.Mathlib.Omega.{arith}
+use Prim.Native.Nat.{ℕ, _≤_, _<_}
 use lib.ListN.{length}
-use lib.Dec.{leb, eqb}
 use borrow.Author.Tests.{le-leb, lt-leb, eq-eqb, ne-eqb}
-use Rattle.octets.specs.Numbers.{byteAt, shortAt, longAt}
+use Rattle.octets.specs.Numbers.{byteAt, shortAt}
 use Rattle.model.specs.Lists.{if_then_else_}
 use Rattle.model.specs.declared.Data.{Data}
 use Rattle.model.specs.Data.{isData, fieldsOf, readData}

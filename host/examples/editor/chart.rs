@@ -62,7 +62,7 @@ fn sign(session: &Session, event: &Event) -> Sign {
         (Mark::Retransmitted, false) => Sign::SentAgain,
         (Mark::Retransmitted, true) => Sign::LostAgain,
         (Mark::Acknowledged, _) => Sign::Acknowledged,
-        (Mark::Abandoned, _) if session.arrived.get(&event.at).is_some_and(|at| *at <= event.time) => Sign::Unheard,
+        (Mark::Abandoned, _) if session.receiver.arrived.get(&event.at).is_some_and(|at| *at <= event.time) => Sign::Unheard,
         (Mark::Abandoned, _) => Sign::GivenUp,
         (Mark::Terminator, _) => Sign::Terminator,
     }

@@ -247,23 +247,14 @@ impl Host {
         }
     }
 
-    fn transmit(&mut self, now: u64, link: &mut Link, chunk: &Chunk, mark: Mark) {
+    /// Sends a chunk, for the first time or again. What is abandoned, as a terminator is, would be refused here.
+    fn transmit(&mut self, now: u64, link: &mut Link, chunk: &Chunk, mark: Mark) -> Result<(), Refusal> {
         assert!(chunk.deadline.is_none_or(|deadline| now < deadline), "nothing leaves at or after its deadline");
-        assert!(!chunk.abandoned && !chunk.is_terminator(), "nothing abandoned leaves");
-        let from = chunk.offset as usize;
-        let lost = link.send(
-            now,
-            Packet::Data {
-                tsn: chunk.tsn,
-                stream: chunk.stream_identifier,
-                ssn: chunk.stream_sequence_number,
-                unordered: chunk.unordered,
-                beginning: chunk.beginning_fragment,
-                ending: chunk.ending_fragment,
-                bytes: self.store[from..from + chunk.length as usize].to_vec(),
-            },
-        );
+        let mut out = [0; 16 + PAYLOAD.next_multiple_of(4) as usize];
+        let data = self.sender.data_chunk(chunk.tsn, &self.store, &mut out)?;
+        let lost = link.send(now, Packet::Data { chunk: data.to_vec() });
         self.mark(now, chunk, mark, lost);
+        Ok(())
     }
 
     /// One millisecond of the host: the loop of docs/HOST.md, in its order.
@@ -279,7 +270,7 @@ impl Host {
             self.timers.start(Timer::T3RTX, now, self.rto.get_rto())?;
         }
         if now % SLOT == 0 {
-            self.send_again(now, link);
+            self.send_again(now, link)?;
             self.send_new(now, link)?;
         }
         self.forward(now, link, fired);
@@ -297,14 +288,15 @@ impl Host {
         out < self.congestion.window.min(RECEIVER_WINDOW)
     }
 
-    fn send_again(&mut self, now: u64, link: &mut Link) {
+    fn send_again(&mut self, now: u64, link: &mut Link) -> Result<(), Refusal> {
         while self.window_has_room() {
-            let Some(tsn) = self.again.pop_front() else { return };
+            let Some(tsn) = self.again.pop_front() else { break };
             if let Some(chunk) = self.sender.get(tsn).filter(|chunk| !chunk.acked && !chunk.abandoned) {
                 self.twice.insert(tsn);
-                self.transmit(now, link, &chunk, Mark::Retransmitted);
+                self.transmit(now, link, &chunk, Mark::Retransmitted)?;
             }
         }
+        Ok(())
     }
 
     /// As many new chunks as the windows allow. Before each of them all that is due at the head goes: behind a chunk that was sent, another message
@@ -319,7 +311,7 @@ impl Host {
             let message = self.messages.get_mut(&chunk.message_id).expect("it is known");
             message.first.get_or_insert(chunk.tsn.wrapping_sub(self.first_tsn));
             message.sent += 1;
-            self.transmit(now, link, &chunk, Mark::Sent);
+            self.transmit(now, link, &chunk, Mark::Sent)?;
         }
     }
 

@@ -2,24 +2,17 @@
 
 use crate::rng::Rng;
 
-/// What crosses the link. A data packet carries one chunk with its bytes.
+/// What crosses the link: one chunk in a packet. Those of DATA and SACK are bytes, as RFC 9260 has them.
 #[derive(Clone)]
 pub enum Packet {
     Data {
-        tsn: u32,
-        stream: u16,
-        ssn: u16,
-        unordered: bool,
-        beginning: bool,
-        ending: bool,
-        bytes: Vec<u8>,
+        chunk: Vec<u8>,
     },
     /// All up to `tsn` is settled; of each ordered stream, nothing up to this SSN is to be waited for.
     Forward {
         tsn: u32,
         streams: Vec<(u16, u16)>,
     },
-    /// The bytes of a SACK chunk, as RFC 9260 has it.
     Sack {
         chunk: Vec<u8>,
     },

@@ -18,7 +18,7 @@ use std::error::Error;
 use std::path::PathBuf;
 
 use host::{CHANNELS, End, FIRST_WINDOW, Host, Mark, Message, PAYLOAD, RECEIVER_WINDOW, SLOT};
-use link::{DELAY, DOWN, Link, Packet};
+use link::{DELAY, DOWN, Link};
 use receiver::{Handed, Receiver};
 use rng::Rng;
 
@@ -44,8 +44,6 @@ pub struct Session {
     pub out: Link,
     pub back: Link,
     pub ended: u64,
-    /// The TSNs that came to the editor, counted from the first, and when.
-    pub arrived: BTreeMap<u32, u64>,
     /// Where in `receiver.handed` the message of a stream and a version is.
     pub handed: BTreeMap<(u16, u32), usize>,
 }
@@ -85,13 +83,9 @@ fn run(seed: u64, loss: u64) -> Result<Session, Box<dyn Error>> {
     let mut host = Host::new(FIRST_TSN)?;
     let mut receiver = Receiver::new(FIRST_TSN);
     let (mut out, mut back) = (Link::new(seed ^ 1 << 40, loss), Link::new(seed ^ 2 << 40, loss));
-    let mut arrived = BTreeMap::new();
     let mut now = 0;
     while now <= at || !host.idle() {
         for packet in out.arrivals(now) {
-            if let Packet::Data { tsn, .. } = packet {
-                arrived.entry(tsn.wrapping_sub(FIRST_TSN)).or_insert(now);
-            }
             let answer = receiver.take(now, packet);
             back.send(now, answer);
         }
@@ -108,7 +102,7 @@ fn run(seed: u64, loss: u64) -> Result<Session, Box<dyn Error>> {
         now += 1;
         assert!(now < 10_000, "the channel waits for ever");
     }
-    Ok(Session { edits, host, receiver, out, back, ended: now, arrived, handed: BTreeMap::new() })
+    Ok(Session { edits, host, receiver, out, back, ended: now, handed: BTreeMap::new() })
 }
 
 /// What must hold of what the editor was handed. Answers how many trees came after a newer one of their channel, and how many were whole in

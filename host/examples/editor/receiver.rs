@@ -8,10 +8,22 @@ use crate::link::Packet;
 struct Fragment {
     stream: u16,
     ssn: u16,
+    protocol: u32,
     unordered: bool,
     beginning: bool,
     ending: bool,
     bytes: Vec<u8>,
+}
+
+/// Reads a DATA chunk (RFC 9260, section 3.3.1): its TSN, and what it carries.
+fn read(chunk: &[u8]) -> (u32, Fragment) {
+    let number = |from: usize, width: usize| chunk[from..from + width].iter().fold(0, |value, byte| value << 8 | u32::from(*byte));
+    assert!(chunk[0] == 0 && chunk[1] < 8 && chunk.len() % 4 == 0, "no DATA chunk");
+    let (bytes, padding) = chunk[16..].split_at(number(2, 2) as usize - 16);
+    assert!(!bytes.is_empty() && padding.len() < 4 && padding.iter().all(|byte| *byte == 0), "behind the payload stand up to three zeros");
+    let [ending, beginning, unordered] = [1, 2, 4].map(|bit| chunk[1] & bit != 0);
+    let (stream, ssn, protocol) = (number(8, 2) as u16, number(10, 2) as u16, number(12, 4));
+    (number(4, 4), Fragment { stream, ssn, protocol, unordered, beginning, ending, bytes: bytes.to_vec() })
 }
 
 /// A message that the editor is handed.
@@ -33,6 +45,8 @@ pub struct Receiver {
     next_ssn: BTreeMap<u16, u16>,
     /// Whole, but behind a message that is not: its last TSN, when it was whole, and its bytes.
     waiting: BTreeMap<(u16, u16), (u32, u64, Vec<u8>)>,
+    /// The TSNs that came, and when.
+    pub arrived: BTreeMap<u32, u64>,
     pub handed: Vec<Handed>,
     pub duplicates: usize,
 }
@@ -46,6 +60,7 @@ impl Receiver {
             fragments: BTreeMap::new(),
             next_ssn: BTreeMap::new(),
             waiting: BTreeMap::new(),
+            arrived: BTreeMap::new(),
             handed: Vec::new(),
             duplicates: 0,
         }
@@ -64,14 +79,16 @@ impl Receiver {
     /// Takes a packet, and answers with an acknowledgement.
     pub fn take(&mut self, now: u64, packet: Packet) -> Packet {
         match packet {
-            Packet::Data { tsn, stream, ssn, unordered, beginning, ending, bytes } => {
+            Packet::Data { chunk } => {
+                let (tsn, fragment) = read(&chunk);
                 let at = tsn.wrapping_sub(self.first_tsn);
+                self.arrived.entry(at).or_insert(now);
                 // A TSN before the first would be 2^31 or more away from it.
                 if at < self.next || self.beyond.contains(&at) {
                     self.duplicates += 1;
                 } else {
                     self.beyond.insert(at);
-                    self.fragments.insert(at, Fragment { stream, ssn, unordered, beginning, ending, bytes });
+                    self.fragments.insert(at, fragment);
                     self.put_together(now, at);
                     self.advance();
                 }
@@ -135,6 +152,7 @@ impl Receiver {
         let parts: Vec<Fragment> = (first..=last).map(|at| self.fragments.remove(&at).expect("it is there")).collect();
         let (stream, ssn, unordered) = (parts[0].stream, parts[0].ssn, parts[0].unordered);
         assert!(parts.iter().all(|part| (part.stream, part.ssn, part.unordered) == (stream, ssn, unordered)), "fragments of two messages");
+        assert!(parts.iter().all(|part| part.protocol == 53), "another payload type");
         let bytes = parts.into_iter().flat_map(|part| part.bytes).collect();
         if unordered {
             self.handed.push(Handed { stream, bytes, whole_at: now, at: now });

@@ -81,6 +81,7 @@ impl Generator {
         self.say(format_args!("sender {tsn} {number}"));
         self.say(format_args!("timers 8 10 60000"));
         self.say(format_args!("rto 3000 1000 60000"));
+        self.fresh_bytes();
         for _ in 0..self.random.between(1, profile.streams.max(1)) {
             self.open_stream(profile.payloads, profile.kinds, profile.unordered);
         }
@@ -156,7 +157,7 @@ impl Generator {
 
     // ---- arguments
 
-    fn first_tsn(&mut self) -> u64 {
+    pub fn first_tsn(&mut self) -> u64 {
         match self.random.below(4) {
             0 => self.random.pick(&[0, 1, U32_MAX, U32_MAX - 1, 1 << 31, (1 << 31) - 1]),
             1 => U32_MAX - self.random.below(300),

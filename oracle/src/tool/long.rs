@@ -1,10 +1,11 @@
 //! Scripts that take very many calls to get to their place: they run after the others.
 
+use crate::data::LONGEST;
 use crate::generator::{Generator, Profile, Script, U32_MAX};
 use crate::profiles::PROFILES;
 use crate::random::Random;
 
-pub const LONG: [fn(u64, usize) -> Script; 4] = [wrapped_ssn, full_buffer, tiny_variance, longest_sack];
+pub const LONG: [fn(u64, usize) -> Script; 5] = [wrapped_ssn, full_buffer, tiny_variance, longest_sack, last_data];
 /// The streams of their random numbers: far from those of the other scripts.
 const STREAM: u64 = 1 << 60;
 
@@ -97,4 +98,32 @@ fn longest_sack(seed: u64, calls: usize) -> Script {
     g.longest_sack();
     g.go_on(sacks, g.made() + calls / 2);
     Script { name: "longest-sack", text: g.finish() }
+}
+
+/// DATA chunks of the last stream whose SSNs and TSNs wrap, ordered and not; then the longest fragments.
+fn last_data(seed: u64, calls: usize) -> Script {
+    let mut g = Generator::new(Random::new(seed, STREAM + 4));
+    let data = profile("data");
+    g.begin(data);
+    let first = U32_MAX - g.random.below(12);
+    g.say(format_args!("sender {first} 0"));
+    g.say(format_args!("open {} {LONGEST}", u16::MAX));
+    for _ in 0..65_530 {
+        g.say(format_args!("write {} 50 0 0", u16::MAX));
+    }
+    for length in 0..24 {
+        let unordered = g.random.below(2);
+        g.say(format_args!("rel {} {unordered} 0 0", u16::MAX));
+        let (typ, offset) = (g.payload_type(), g.random.below(60_000));
+        let (_, _, tsn) = g.oracle.flight();
+        g.say(format_args!("write {} {typ} {offset} {length}", u16::MAX));
+        g.say(format_args!("send 0"));
+        g.say(format_args!("data {tsn} 48"));
+        g.data_of(tsn);
+    }
+    for _ in 0..12 {
+        g.long_data(u16::MAX);
+    }
+    g.go_on(data, g.made() + calls / 2);
+    Script { name: "last-data", text: g.finish() }
 }

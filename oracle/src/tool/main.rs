@@ -2,6 +2,7 @@
 //! README.md says what each does.
 
 mod compare;
+mod data;
 mod faults;
 mod generator;
 mod long;
@@ -20,6 +21,7 @@ use std::path::PathBuf;
 use std::process::ExitCode;
 
 use options::Options;
+use profiles::PROFILES;
 use sides::Side;
 
 fn main() -> ExitCode {
@@ -63,7 +65,7 @@ fn run() -> Result<bool, String> {
             }
         }
         "faults" => faults::faults(&options(400, 500, 1).read(words)?, &program, &sections),
-        "sample" => sample::sample(&options(14, 30, 7).read(words)?, &oracle, &sections),
+        "sample" => sample::sample(&options(PROFILES.len() as u64, 30, 7).read(words)?, &oracle, &sections),
         _ => return Err(format!("unknown command {command}")),
     };
     done.map_err(|error| error.to_string())

@@ -4,6 +4,8 @@ use crate::generator::{Action, CLOCK_MAX, Generator, NO_CROWD, Profile, U32_MAX,
 
 /// Small payload maxima make many fragments of few bytes.
 const SMALL: &[u64] = &[1, 2, 3, 7, 16, 100, 256];
+/// With all four paddings.
+pub const PADDED: &[u64] = &[1, 2, 3, 4, 5, 6, 7, 8, 13, 14, 15, 16, 31, 64, 100];
 const MIXED: &[u64] = &[1, 5, 64, 255, 256, 1200, 65_514, 65_515];
 const ANY_KIND: &[u8] = &[0, 1, 2, 2, 2, 3, 255];
 const TIMED: &[u8] = &[2];
@@ -21,12 +23,13 @@ const LIFETIMES: &[(u64, Action)] = &[
     (4, Generator::list_expired),
     (2, Generator::acknowledge),
     (1, Generator::sack),
+    (1, Generator::data),
     (2, Generator::pop_some),
     (1, Generator::abandon),
     (1, Generator::question),
 ];
 
-pub const PROFILES: [&Profile; 14] = [
+pub const PROFILES: [&Profile; 15] = [
     &Profile {
         name: "mixed",
         actions: &[
@@ -35,7 +38,10 @@ pub const PROFILES: [&Profile; 14] = [
             (3, Generator::send_some),
             (5, Generator::acknowledge),
             (4, Generator::sack),
+            (4, Generator::data),
+            (1, Generator::lend),
             (1, Generator::wire),
+            (1, Generator::memory),
             (3, Generator::pop),
             (2, Generator::pop_some),
             (2, Generator::abandon),
@@ -96,6 +102,7 @@ pub const PROFILES: [&Profile; 14] = [
             (1, Generator::pop_some),
             (3, Generator::acknowledge),
             (2, Generator::sack),
+            (3, Generator::data),
             (2, Generator::abandon),
             (2, Generator::tail),
             (2, Generator::expire),
@@ -143,6 +150,7 @@ pub const PROFILES: [&Profile; 14] = [
             (4, Generator::abandon),
             (3, Generator::acknowledge),
             (2, Generator::sack),
+            (4, Generator::data),
             (3, Generator::pop),
             (3, Generator::pop_some),
             (2, Generator::tail),
@@ -250,6 +258,7 @@ pub const PROFILES: [&Profile; 14] = [
             (6, Generator::send),
             (6, Generator::oldest_delivered),
             (2, Generator::sack),
+            (2, Generator::data),
             (1, Generator::mark_all),
             (1, Generator::list_expired),
             (1, Generator::question),
@@ -272,6 +281,7 @@ pub const PROFILES: [&Profile; 14] = [
             (1, Generator::fill_flight),
             (14, Generator::sack),
             (1, Generator::wire),
+            (1, Generator::data),
             (2, Generator::acknowledge),
             (1, Generator::pop),
             (2, Generator::abandon),
@@ -283,6 +293,36 @@ pub const PROFILES: [&Profile; 14] = [
         ],
         streams: 4,
         payloads: SMALL,
+        kinds: ANY_KIND,
+        unordered: EITHER,
+        last_numbers: None,
+        crowd: CROWD,
+    },
+    &Profile {
+        name: "data",
+        actions: &[
+            (1, Generator::fresh_sender),
+            (4, Generator::write_lent),
+            (2, Generator::send_some),
+            (1, Generator::half_sent),
+            (18, Generator::data_some),
+            (2, Generator::data),
+            (4, Generator::lend),
+            (1, Generator::memory),
+            (1, Generator::wire),
+            (1, Generator::seldom_long_data),
+            (2, Generator::acknowledge),
+            (1, Generator::sack),
+            (2, Generator::abandon),
+            (1, Generator::cut_off),
+            (1, Generator::tail),
+            (1, Generator::pop),
+            (1, Generator::pop_some),
+            (1, Generator::mark_all),
+            (1, Generator::question),
+        ],
+        streams: 5,
+        payloads: PADDED,
         kinds: ANY_KIND,
         unordered: EITHER,
         last_numbers: None,
@@ -375,6 +415,15 @@ impl Generator {
 
     fn fill_flight(&mut self) {
         self.send_times(256);
+    }
+
+    /// All that is pending, as far as the flight takes it.
+    pub fn send_all(&mut self) {
+        let now = self.now;
+        let (unordered, ordered) = self.oracle.rings();
+        for _ in 0..unordered + ordered {
+            self.say(format_args!("send {now}"));
+        }
     }
 
     /// A message of several fragments of which some are sent, and its prefix sometimes acknowledged and popped.
@@ -729,7 +778,7 @@ impl Generator {
     fn no_call(&mut self) {
         let sid = self.sid();
         let now = self.now;
-        match self.random.below(36) {
+        match self.random.below(41) {
             0 => self.say(format_args!("send")),
             1 => self.say(format_args!("send {now} 1")),
             2 => self.say(format_args!("send +{now}")),
@@ -765,6 +814,11 @@ impl Generator {
             32 => self.say(format_args!("wipe 256")),
             33 => self.say(format_args!("look {now}")),
             34 => self.say(format_args!("sack -")),
+            35 => self.say(format_args!("data {now}")),
+            36 => self.say(format_args!("data 4294967296 {now}")),
+            37 => self.say(format_args!("fill 256")),
+            38 => self.say(format_args!("lend -1")),
+            39 => self.say(format_args!("read {now}")),
             _ => self.say(format_args!("")),
         }
     }

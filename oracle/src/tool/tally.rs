@@ -6,7 +6,7 @@ use std::fmt;
 use crate::script::{answered, words};
 
 /// The calls of the language that both sides have.
-pub const CALLS: [&str; 48] = [
+pub const CALLS: [&str; 52] = [
     "sender",
     "open",
     "rel",
@@ -23,6 +23,7 @@ pub const CALLS: [&str; 48] = [
     "expired",
     "markall",
     "sack",
+    "data",
     "ack",
     "pop",
     "get",
@@ -55,15 +56,25 @@ pub const CALLS: [&str; 48] = [
     "wipe",
     "put",
     "look",
+    "fill",
+    "lend",
+    "read",
 ];
-/// 01's refusals are 1 to 12, a SACK's 13 and 14.
-pub const REFUSALS: usize = 14;
+/// 01's refusals are 1 to 12, a SACK's 13 and 14, a DATA chunk's 15 to 17.
+pub const REFUSALS: usize = 17;
 
 #[derive(Clone, Default)]
 struct Counts {
     calls: u64,
     nothing: u64,
     refused: [u64; REFUSALS + 1],
+}
+
+impl Counts {
+    /// Neither answered with nothing nor refused.
+    fn done(&self) -> u64 {
+        self.calls - self.nothing - self.refused.iter().sum::<u64>()
+    }
 }
 
 pub struct Tally {
@@ -137,9 +148,9 @@ fn refusal(answer: &[u8]) -> Option<usize> {
 
 impl fmt::Display for Tally {
     fn fmt(&self, f: &mut fmt::Formatter<'_>) -> fmt::Result {
-        writeln!(f, "{:<10} {:>10} {:>10}  refusals", "call", "times", "nothing")?;
+        writeln!(f, "{:<10} {:>10} {:>10} {:>10}  refusals", "call", "times", "done", "nothing")?;
         for (name, counts) in CALLS.iter().zip(&self.counts) {
-            write!(f, "{name:<10} {:>10} {:>10} ", counts.calls, counts.nothing)?;
+            write!(f, "{name:<10} {:>10} {:>10} {:>10} ", counts.calls, counts.done(), counts.nothing)?;
             for (number, times) in counts.refused.iter().enumerate().filter(|(_, times)| **times > 0) {
                 write!(f, " R{number} {times}")?;
             }

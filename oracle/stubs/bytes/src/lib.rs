@@ -111,6 +111,9 @@ impl BytesMut {
     pub fn freeze(self) -> Bytes {
         self.0.into()
     }
+    pub fn clear(&mut self) {
+        self.0.clear();
+    }
     pub fn extend_from_slice(&mut self, s: &[u8]) {
         self.0.extend_from_slice(s)
     }

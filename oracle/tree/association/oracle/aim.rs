@@ -44,6 +44,12 @@ impl Oracle {
         flight.into_iter().filter_map(|chunk| self.deadline(chunk)).collect()
     }
 
+    /// Of an entry that is neither acknowledged nor abandoned: the offset of its bytes, and their number.
+    pub fn held(&self, tsn: u32) -> Option<(u64, u64)> {
+        let entry = self.live(tsn)?;
+        Some((self.offset(entry)?, entry.user_data.len() as u64))
+    }
+
     /// The deadlines of the six timers.
     pub fn timer_deadlines(&self) -> [Option<u64>; 6] {
         Timer::VALUES.map(|timer| self.timers.get(timer).map(|t| self.since_base(t)))

@@ -103,6 +103,17 @@ impl BenchSender {
         let covered = covered(queue, sack.cumulative_tsn_ack)?;
         Some(single_calls(queue, &sack, covered))
     }
+    /// The chunk of a TSN in flight as the original writes it, in a fresh allocation.
+    #[inline(never)]
+    pub fn marshal(&self, tsn: u32) -> Option<bytes::Bytes> {
+        self.a.outbound.get(tsn)?.marshal().ok()
+    }
+    /// The same in a buffer that is kept, of which what it had goes.
+    #[inline(never)]
+    pub fn marshal_to(&self, tsn: u32, writer: &mut bytes::BytesMut) -> Option<usize> {
+        writer.clear();
+        self.a.outbound.get(tsn)?.marshal_to(writer).ok()
+    }
     #[inline(never)]
     pub fn released(&mut self, sid: u16, n: i64) -> bool {
         self.a.streams.get_mut(&sid).expect("open").on_buffer_released(n)

@@ -161,7 +161,7 @@ pub(super) enum Call {
     State {
         parts: Parts,
     },
-    // The wire: bytes that the script puts there, and lends to the calls that read bytes.
+    // The wire and the memory: bytes of the script, which it lends to the calls that read and write bytes.
     Wipe {
         byte: u8,
     },
@@ -176,6 +176,20 @@ pub(super) enum Call {
     },
     Sack {
         bytes: u64,
+    },
+    Fill {
+        seed: u8,
+    },
+    Lend {
+        bytes: u64,
+    },
+    Read {
+        at: u64,
+        bytes: u64,
+    },
+    Data {
+        tsn: u32,
+        room: u64,
     },
     // The oracle's own: `replay` answers them with `bad`.
     Mode {
@@ -267,6 +281,10 @@ fn call(name: &[u8], w: &mut Words<'_>) -> Option<Call> {
         b"put" => Call::Put { at: w.number()?, width: w.width()?, value: w.number()? },
         b"look" => Call::Look { at: w.number()?, bytes: w.number()? },
         b"sack" => Call::Sack { bytes: w.number()? },
+        b"fill" => Call::Fill { seed: w.number()? },
+        b"lend" => Call::Lend { bytes: w.number()? },
+        b"read" => Call::Read { at: w.number()?, bytes: w.number()? },
+        b"data" => Call::Data { tsn: w.number()?, room: w.number()? },
         b"mode" => Call::Mode { guard: w.guard()? },
         b"cap" => Call::Capacity { ring: w.number()?, flight: w.number()?, message: w.number()? },
         b"touch" => Call::Touch { tsn: w.number()?, now: w.number()? },
@@ -380,6 +398,10 @@ mod tests {
             "put 18446744073709551615 1 256",
             "put 0 8 18446744073709551615",
             "sack 18446744073709551615",
+            "fill 255",
+            "lend 18446744073709551615",
+            "read 18446744073709551615 0",
+            "data 4294967295 18446744073709551615",
         ] {
             assert!(matches!(read(line.as_bytes()), Line::Call(_)), "{line}");
         }
@@ -412,6 +434,12 @@ mod tests {
             "put 0 9 0",
             "look 0",
             "sack -1",
+            "fill 256",
+            "lend",
+            "read 0",
+            "data 0",
+            "data 4294967296 0",
+            "data 0 0 0",
         ] {
             assert!(matches!(read(line.as_bytes()), Line::Bad), "{line}");
         }

@@ -7,8 +7,8 @@ use alloc::vec::Vec;
 use core::time::Duration;
 
 use super::call::Call;
-use super::guard::{CLOCK_MAX, DCEP, STREAMS, U32_MAX, blocks, long, short};
-use super::{Oracle, put, show};
+use super::guard::{CLOCK_MAX, DCEP, STREAMS, U32_MAX, blocks, chunk_size, long, short};
+use super::{LENT, Oracle, place, put, show};
 use crate::association::stream::ReliabilityType;
 use crate::association::timer::Timer;
 use crate::chunk::chunk_payload_data::{ChunkPayloadData, PayloadProtocolIdentifier};
@@ -46,6 +46,13 @@ faults! {
     stale_by_plain_numbers start_1_refused end_at_the_newest_refused end_beyond_the_newest_cut
     start_above_end_skipped blocks_tested_one_by_one covered_one_less covered_not_popped covered_bytes_lost
     blocks_from_the_old_oldest blocks_without_their_end overlaps_released_twice
+    padding_counted_in_the_length answer_without_padding padding_not_cleared byte_behind_the_padding_cleared
+    stream_and_ssn_swapped beginning_and_ending_swapped immediate_asked_for unordered_without_ssn unknown_types_as_58
+    payload_from_the_first_byte payload_from_the_message acknowledged_written abandoned_written wrapped_tsn_not_written
+    data_tests_17_before_15 data_tests_17_before_16 last_lent_byte_refused all_memory_lent payload_end_in_32_bits
+    lent_in_32_bits room_in_32_bits exact_room_refused room_without_padding room_tested_while_writing
+    refused_data_clears_the_wire data_counts_as_sent data_takes_the_mark
+    fill_repeats sender_lends_anew sender_clears_the_wire sender_clears_the_memory
     restart_at_the_deadline timer_alive_at_the_deadline backoff_ends_at_30 backoff_ends_at_32 ack_capped
     failure_at_the_maximum suppression_stays suppressed_expiry_refused stop_keeps_count reset_stops
     next_timeout_without_ack fresh_restart_tests_nothing
@@ -753,6 +760,250 @@ fn overlaps_released_twice(o: &mut Oracle, call: &Call, out: &mut String) -> Opt
     let held = taken.block_tsns().filter_map(|tsn| queue.get(tsn)).map(|chunk| chunk.user_data.len()).sum::<usize>();
     acknowledge(o, taken.block_tsns());
     releases(prefix + held, out)
+}
+
+// ---- DATA chunks
+
+/// Writes an entry's chunk, whatever would refuse it, with other bytes.
+fn write_chunk(
+    o: &mut Oracle,
+    call: &Call,
+    out: &mut String,
+    change: fn(&Oracle, &ChunkPayloadData, &mut Vec<u8>),
+) -> Option<Answer> {
+    let Call::Data { tsn, room } = *call else { return None };
+    let entry = o.association.outbound.get(tsn)?;
+    let mut bytes = o.chunk_bytes(entry);
+    change(o, entry, &mut bytes);
+    o.put_chunk(&bytes, room, out);
+    Some(Ok(()))
+}
+
+/// The same for a call that is not refused.
+fn other_chunk(
+    o: &mut Oracle,
+    call: &Call,
+    out: &mut String,
+    change: fn(&Oracle, &ChunkPayloadData, &mut Vec<u8>),
+) -> Option<Answer> {
+    o.refusal(call).is_none().then(|| write_chunk(o, call, out, change))?
+}
+
+fn padding_counted_in_the_length(o: &mut Oracle, call: &Call, out: &mut String) -> Option<Answer> {
+    other_chunk(o, call, out, |_, _, bytes| {
+        let length = bytes.len() as u16;
+        bytes[2..4].copy_from_slice(&length.to_be_bytes());
+    })
+}
+
+fn answer_without_padding(o: &mut Oracle, call: &Call, out: &mut String) -> Option<Answer> {
+    let Call::Data { tsn, room } = *call else { return None };
+    let start = out.len();
+    other_chunk(o, call, out, |_, _, _| {})?.ok()?;
+    let length = o.live(tsn)?.user_data.len();
+    out.truncate(start);
+    o.show_chunk_bytes(16 + length, room, out);
+    Some(Ok(()))
+}
+
+fn padding_not_cleared(o: &mut Oracle, call: &Call, out: &mut String) -> Option<Answer> {
+    other_chunk(o, call, out, |o, entry, bytes| {
+        let padding = 16 + entry.user_data.len()..bytes.len();
+        bytes[padding.clone()].copy_from_slice(&o.wire[padding]);
+    })
+}
+
+fn byte_behind_the_padding_cleared(o: &mut Oracle, call: &Call, out: &mut String) -> Option<Answer> {
+    let Call::Data { tsn, room } = *call else { return None };
+    let behind = chunk_size(o.live(tsn)?);
+    if behind < place(room) && o.refusal(call).is_none() {
+        o.wire[behind] = 0;
+    }
+    Some(o.sound_call(call, out))
+}
+
+fn stream_and_ssn_swapped(o: &mut Oracle, call: &Call, out: &mut String) -> Option<Answer> {
+    other_chunk(o, call, out, |_, _, bytes| bytes[8..12].rotate_left(2))
+}
+
+fn beginning_and_ending_swapped(o: &mut Oracle, call: &Call, out: &mut String) -> Option<Answer> {
+    other_chunk(o, call, out, |_, _, bytes| bytes[1] = bytes[1] & 4 | (bytes[1] & 1) << 1 | (bytes[1] & 2) >> 1)
+}
+
+fn immediate_asked_for(o: &mut Oracle, call: &Call, out: &mut String) -> Option<Answer> {
+    other_chunk(o, call, out, |_, entry, bytes| bytes[1] |= u8::from(entry.ending_fragment) << 3)
+}
+
+fn unordered_without_ssn(o: &mut Oracle, call: &Call, out: &mut String) -> Option<Answer> {
+    other_chunk(o, call, out, |_, entry, bytes| {
+        if entry.unordered {
+            bytes[10..12].fill(0);
+        }
+    })
+}
+
+fn unknown_types_as_58(o: &mut Oracle, call: &Call, out: &mut String) -> Option<Answer> {
+    other_chunk(o, call, out, |_, entry, bytes| {
+        bytes[12..16].copy_from_slice(&(entry.payload_type as u32).to_be_bytes());
+    })
+}
+
+fn payload_from_the_first_byte(o: &mut Oracle, call: &Call, out: &mut String) -> Option<Answer> {
+    other_chunk(o, call, out, |o, entry, bytes| {
+        let length = entry.user_data.len();
+        bytes[16..16 + length].copy_from_slice(&o.memory[..length]);
+    })
+}
+
+fn payload_from_the_message(o: &mut Oracle, call: &Call, out: &mut String) -> Option<Answer> {
+    other_chunk(o, call, out, |o, entry, bytes| {
+        let (from, length) = (o.places[&entry.message_id].offset as usize, entry.user_data.len());
+        bytes[16..16 + length].copy_from_slice(&o.memory[from..from + length]);
+    })
+}
+
+/// An entry that may not be written is, without the bytes that it has lost.
+fn dead_written(o: &mut Oracle, call: &Call, out: &mut String, dead: fn(&ChunkPayloadData) -> bool) -> Option<Answer> {
+    let Call::Data { tsn, room } = *call else { return None };
+    if room < 16 || !dead(o.association.outbound.get(tsn)?) {
+        return None;
+    }
+    write_chunk(o, call, out, |_, _, _| {})
+}
+
+fn acknowledged_written(o: &mut Oracle, call: &Call, out: &mut String) -> Option<Answer> {
+    dead_written(o, call, out, |entry| entry.acked && !entry.abandoned)
+}
+
+fn abandoned_written(o: &mut Oracle, call: &Call, out: &mut String) -> Option<Answer> {
+    dead_written(o, call, out, |entry| entry.abandoned && !entry.acked)
+}
+
+fn wrapped_tsn_not_written(o: &mut Oracle, call: &Call, _: &mut String) -> Option<Answer> {
+    let Call::Data { tsn, .. } = *call else { return None };
+    refuse(15, tsn < o.association.outbound.probe_oldest()?)
+}
+
+fn data_tests_17_before_15(o: &mut Oracle, call: &Call, _: &mut String) -> Option<Answer> {
+    let Call::Data { room, .. } = *call else { return None };
+    refuse(17, o.refusal(call) == Some(15) && room < 16)
+}
+
+fn data_tests_17_before_16(o: &mut Oracle, call: &Call, _: &mut String) -> Option<Answer> {
+    let Call::Data { tsn, room } = *call else { return None };
+    let size = chunk_size(o.live(tsn)?);
+    refuse(17, o.refusal(call) == Some(16) && place(room) < size)
+}
+
+fn last_lent_byte_refused(o: &mut Oracle, call: &Call, _: &mut String) -> Option<Answer> {
+    let Call::Data { tsn, .. } = *call else { return None };
+    refuse(16, o.payload_end(o.live(tsn)?) == o.memory_lent as u64)
+}
+
+/// The call, as if so much of the memory were lent.
+fn lent_so_far(o: &mut Oracle, call: &Call, out: &mut String, lent: usize) -> Answer {
+    let before = core::mem::replace(&mut o.memory_lent, lent);
+    let answer = o.sound_call(call, out);
+    o.memory_lent = before;
+    answer
+}
+
+fn all_memory_lent(o: &mut Oracle, call: &Call, out: &mut String) -> Option<Answer> {
+    let Call::Data { .. } = *call else { return None };
+    Some(lent_so_far(o, call, out, o.memory.len()))
+}
+
+fn payload_end_in_32_bits(o: &mut Oracle, call: &Call, out: &mut String) -> Option<Answer> {
+    let Call::Data { tsn, .. } = *call else { return None };
+    let turned = o.payload_end(o.live(tsn)?) as u32 as usize;
+    (turned <= o.memory_lent).then(|| lent_so_far(o, call, out, usize::MAX))
+}
+
+fn lent_in_32_bits(o: &mut Oracle, call: &Call, out: &mut String) -> Option<Answer> {
+    let Call::Lend { bytes } = *call else { return None };
+    Some(o.sound_call(&Call::Lend { bytes: bytes & U32_MAX }, out))
+}
+
+fn room_in_32_bits(o: &mut Oracle, call: &Call, out: &mut String) -> Option<Answer> {
+    let Call::Data { tsn, room } = *call else { return None };
+    Some(o.sound_call(&Call::Data { tsn, room: room & U32_MAX }, out))
+}
+
+fn exact_room_refused(o: &mut Oracle, call: &Call, _: &mut String) -> Option<Answer> {
+    let Call::Data { tsn, room } = *call else { return None };
+    refuse(17, o.refusal(call).is_none() && place(room) == chunk_size(o.live(tsn)?))
+}
+
+fn room_without_padding(o: &mut Oracle, call: &Call, out: &mut String) -> Option<Answer> {
+    let Call::Data { tsn, room } = *call else { return None };
+    let length = o.live(tsn)?.user_data.len();
+    if o.refusal(call) != Some(17) || place(room) < 16 + length {
+        return None;
+    }
+    write_chunk(o, call, out, |_, entry, bytes| bytes.truncate(16 + entry.user_data.len()))
+}
+
+fn room_tested_while_writing(o: &mut Oracle, call: &Call, _: &mut String) -> Option<Answer> {
+    let Call::Data { tsn, room } = *call else { return None };
+    if o.refusal(call) == Some(17) {
+        let fitting = &o.chunk_bytes(o.live(tsn)?)[..place(room)];
+        o.wire[..fitting.len()].copy_from_slice(fitting);
+    }
+    None
+}
+
+fn refused_data_clears_the_wire(o: &mut Oracle, call: &Call, _: &mut String) -> Option<Answer> {
+    let Call::Data { room, .. } = *call else { return None };
+    if o.refusal(call).is_some() {
+        o.wire[..place(room)].fill(0);
+    }
+    None
+}
+
+/// Writing changes nothing of the entry; here it does.
+fn entry_changed(o: &mut Oracle, call: &Call, out: &mut String, change: fn(&mut ChunkPayloadData)) -> Option<Answer> {
+    let Call::Data { tsn, .. } = *call else { return None };
+    let answer = o.sound_call(call, out);
+    if answer.is_ok() {
+        change(o.association.outbound.get_mut(tsn)?);
+    }
+    Some(answer)
+}
+
+fn data_counts_as_sent(o: &mut Oracle, call: &Call, out: &mut String) -> Option<Answer> {
+    entry_changed(o, call, out, |entry| entry.nsent += 1)
+}
+
+fn data_takes_the_mark(o: &mut Oracle, call: &Call, out: &mut String) -> Option<Answer> {
+    entry_changed(o, call, out, |entry| entry.retransmit = false)
+}
+
+fn fill_repeats(o: &mut Oracle, call: &Call, out: &mut String) -> Option<Answer> {
+    let Call::Fill { seed } = *call else { return None };
+    o.memory.iter_mut().enumerate().for_each(|(i, to)| *to = seed.wrapping_add(i as u8));
+    put(out, "ok");
+    Some(Ok(()))
+}
+
+fn sender_lends_anew(o: &mut Oracle, call: &Call, _: &mut String) -> Option<Answer> {
+    if let Call::Sender { .. } = *call {
+        o.memory_lent = LENT;
+    }
+    None
+}
+
+fn sender_clears_the_wire(o: &mut Oracle, call: &Call, _: &mut String) -> Option<Answer> {
+    if let Call::Sender { .. } = *call {
+        o.wire.fill(0);
+    }
+    None
+}
+
+fn sender_clears_the_memory(o: &mut Oracle, call: &Call, _: &mut String) -> Option<Answer> {
+    if let Call::Sender { .. } = *call {
+        o.memory.fill(0);
+    }
+    None
 }
 
 // ---- timers

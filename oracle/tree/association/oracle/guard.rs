@@ -1,7 +1,8 @@
-//! Document 01's refusals, in 01's orders, and those of the SACK. Nothing is changed here.
+//! Document 01's refusals, in 01's orders, and those of the SACK and of the DATA chunk. Nothing is changed here.
 
-use super::Oracle;
 use super::call::Call;
+use super::{Oracle, place};
+use crate::chunk::chunk_payload_data::ChunkPayloadData;
 use crate::queue::outbound_queue::OutboundQueue;
 
 pub(super) const CLOCK_MAX: u64 = 1 << 40;
@@ -60,6 +61,13 @@ impl Oracle {
                 let chunk = self.lent(bytes);
                 first(&[(!is_sack(chunk), 13)]).or_else(|| first(&[(self.has_bad_block(chunk), 14)]))
             }
+            Call::Data { tsn, room } => match self.live(tsn) {
+                None => Some(15),
+                Some(entry) => first(&[
+                    (self.payload_end(entry) > self.memory_lent as u64, 16),
+                    (place(room) < chunk_size(entry), 17),
+                ]),
+            },
             _ => None,
         }
     }
@@ -95,6 +103,11 @@ impl Oracle {
         })
     }
 
+    /// The byte of the memory behind an entry's last.
+    pub(super) fn payload_end(&self, entry: &ChunkPayloadData) -> u64 {
+        self.offset(entry).unwrap_or_default().saturating_add(entry.user_data.len() as u64)
+    }
+
     fn list_is_longer(&self, now: u64, room: Option<u64>) -> bool {
         let longer = |room| self.association.outbound.expired_inflight(self.at(now)).len() as u64 > room;
         room.is_some_and(longer)
@@ -105,6 +118,11 @@ impl Oracle {
         let expired = kept.deadline.is_some_and(|d| d <= self.at(now));
         expired && !kept.suppressed && kept.count as u64 == U32_MAX
     }
+}
+
+/// The bytes that an entry's DATA chunk takes, padding included.
+pub(super) fn chunk_size(entry: &ChunkPayloadData) -> usize {
+    16 + entry.user_data.len().next_multiple_of(4)
 }
 
 /// How many entries a cumulative TSN covers: from one before the oldest to the newest; none where the SACK is stale.

@@ -1,14 +1,15 @@
 //! The oracle: a module inside the copy of the crate that drives the original code from a script.
 //! README.md has the language.
 //!
-//! `mode guard` (as it starts): document 01's refusals stand in front of each call (guard.rs), and after
-//! expire_pending the stream's next SSN drops (01: "added here"). `mode raw`: the calls of the Rust alone.
-//! All else is the original's work, but that a SACK is single calls: what the original makes of one stands in a file
-//! that is a stub here.
+//! `mode guard` (as it starts): document 01's refusals stand in front of each call (guard.rs), after expire_pending
+//! the stream's next SSN drops (01: "added here"), and a DATA chunk has its padding and the write's payload type
+//! (data.rs). `mode raw`: the calls of the Rust alone. All else is the original's work, but that a SACK is single
+//! calls: what the original makes of one stands in a file that is a stub here.
 
 mod aim;
 pub mod bench;
 mod call;
+mod data;
 mod faults;
 mod guard;
 mod show;
@@ -38,8 +39,19 @@ use crate::queue::outbound_queue::OutboundQueue;
 const RING: usize = 256;
 const FLIGHT: usize = 256;
 const MESSAGE: u32 = 65_536;
-/// The bytes of the wire.
-const WIRE: usize = 65_544;
+/// The bytes of the wire, and of the memory.
+const BYTES: usize = 65_544;
+/// So many of the memory are lent at the start.
+const LENT: usize = 65_536;
+
+/// What the script said of a message.
+struct Place {
+    /// The address of its first byte.
+    first: usize,
+    offset: u64,
+    /// The payload type, which the original keeps only where it knows it.
+    typ: u32,
+}
 
 pub struct Oracle {
     /// The script's time 0.
@@ -51,14 +63,17 @@ pub struct Oracle {
     association: Association,
     /// The open streams, in the order of opening.
     order: Vec<u16>,
-    /// Of each message, by its number: the address of its first byte and the offset that the script gave.
-    places: HashMap<u64, (usize, u64)>,
+    /// Of each message, by its number.
+    places: HashMap<u64, Place>,
     timers: TimerTable,
     rto: RtoManager,
     /// Bytes to write: one more than a message may have, so that the Rust sees any that is too long.
     data: Vec<u8>,
-    /// Bytes of the script, for the calls that read some.
+    /// Bytes of the script, for the calls that read some or write some.
     wire: Vec<u8>,
+    /// Bytes of the script, for payloads; the first of them are lent.
+    memory: Vec<u8>,
+    memory_lent: usize,
 }
 
 impl Default for Oracle {
@@ -81,7 +96,9 @@ impl Oracle {
             timers: TimerTable::new(None, None, 60_000),
             rto: RtoManager::new(3000, 1000, 60_000),
             data: vec![0; MESSAGE as usize + 1],
-            wire: vec![0; WIRE],
+            wire: vec![0; BYTES],
+            memory: vec![0; BYTES],
+            memory_lent: LENT,
         }
     }
 
@@ -187,6 +204,15 @@ impl Oracle {
                 return show::bytes(self.wire.iter().skip(place(at)).take(place(bytes)), out);
             }
             Call::Sack { bytes } => return self.sack(bytes, out),
+            Call::Fill { seed } => {
+                let byte = |i: usize| seed.wrapping_add(i as u8).wrapping_add((i / 256) as u8);
+                self.memory.iter_mut().enumerate().for_each(|(i, to)| *to = byte(i));
+            }
+            Call::Lend { bytes } => self.memory_lent = place(bytes),
+            Call::Read { at, bytes } => {
+                return show::bytes(self.memory.iter().skip(place(at)).take(place(bytes)), out);
+            }
+            Call::Data { tsn, room } => return self.data(tsn, room, out),
             Call::Timers { .. }
             | Call::TimerSet { .. }
             | Call::TimerStart { .. }
@@ -273,7 +299,7 @@ impl Oracle {
         let written = stream.write_with_ppi(&self.data[..bytes], typ.into());
         if self.next_message() != number {
             let first = self.pending_chunk_of(number).expect("the message was just written");
-            self.places.insert(number, (first, off));
+            self.places.insert(number, Place { first, offset: off, typ });
         }
         match written {
             Ok(len) => put(out, format_args!("ok len={len} high={}", u8::from(!self.association.events.is_empty()))),
@@ -427,9 +453,9 @@ fn single_calls(queue: &mut OutboundQueue, sack: &ChunkSelectiveAck, covered: u3
     released
 }
 
-/// A place of the wire, or its end.
+/// A place of the wire or of the memory, or their end.
 fn place(at: u64) -> usize {
-    at.min(WIRE as u64) as usize
+    at.min(BYTES as u64) as usize
 }
 
 fn put(out: &mut String, text: impl Display) {

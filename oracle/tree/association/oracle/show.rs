@@ -40,8 +40,10 @@ pub(super) fn bytes<'a>(bytes: impl ExactSizeIterator<Item = &'a u8>, out: &mut 
     if bytes.len() == 0 {
         put(out, "-");
     }
+    const DIGITS: &[u8; 16] = b"0123456789abcdef";
     for byte in bytes {
-        put(out, format_args!("{byte:02x}"));
+        out.push(DIGITS[usize::from(byte >> 4)].into());
+        out.push(DIGITS[usize::from(byte & 15)].into());
     }
 }
 
@@ -96,10 +98,10 @@ impl Oracle {
     }
 
     /// The offset of the bytes that a chunk holds: the script's, and how far they lie behind the message's first.
-    fn offset(&self, c: &ChunkPayloadData) -> Option<u64> {
-        let (first, offset) = self.places.get(&c.message_id)?;
-        let behind = (c.user_data.as_ptr() as usize).checked_sub(*first)? as u64;
-        (!c.user_data.is_empty()).then_some(offset + behind)
+    pub(super) fn offset(&self, c: &ChunkPayloadData) -> Option<u64> {
+        let message = self.places.get(&c.message_id)?;
+        let behind = (c.user_data.as_ptr() as usize).checked_sub(message.first)? as u64;
+        (!c.user_data.is_empty()).then_some(message.offset.saturating_add(behind))
     }
 
     pub(super) fn show_stream(&self, sid: u16, out: &mut String) {
