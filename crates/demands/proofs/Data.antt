@@ -3,7 +3,7 @@ use Prim.Native.Nat.{ℕ, _+_, _-_, _≤_, _<_}
 use native.Mathlib.Omega.{arith}
 use native.Mathlib.Decide.{decLe}
 use mathlib.Core.Path.{_≡_, refl, sym, ap, subst, _∙_}
-use mathlib.Core.Bool.{Bool, true, false}
+use mathlib.Core.Bool.{Bool, true}
 use mathlib.Core.Option.{Option, none, some}
 use mathlib.Core.List.{List, _++_, append-assoc}
 use lib.ListN.{length, take, drop, length-append, length-replicate}
@@ -19,7 +19,7 @@ use Rattle.model.specs.Lists.{if_then_else_}
 use Rattle.model.specs.State.{Sender, inFlight, place}
 use Rattle.model.specs.Messages.{flags}
 use Rattle.model.specs.Flight.{outstanding}
-use Rattle.model.specs.Data.{padding, payloadOf, dataBytes, Output, unwritten, laidOut, dataLaid, dataOfEntry, dataChunk, readData, payloadIn}
+use Rattle.model.specs.Data.{padding, payloadOf, dataBytes, Output, unwritten, dataLaid, dataOfEntry, dataChunk, readData, payloadIn}
 use Rattle.demands.specs.Numbers.{ChunkFits}
 use Rattle.demands.specs.Requests.{servedFrom}
 use Rattle.demands.specs.Data.{ToSend, dataSize, payload-length, data-length, DataIsWritten, ReadsBack, WrittenReadsBack}

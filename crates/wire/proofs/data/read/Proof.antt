@@ -1,7 +1,7 @@
 -- Each test is one of `isData`, in its order.
 use Rattle.model.specs.declared.Data.{Data}
-use Prim.Native.Nat.{ℕ, _-_}
-use mathlib.Core.Path.{_≡_, sym, ap, _∙_}
+use Prim.Native.Nat.{_-_}
+use mathlib.Core.Path.{sym, _∙_}
 use native.Mathlib.Omega.{arith}
 use Rattle.wire.specs.DataReads.{too-few, other-type, too-small, too-long, it-is}
 use denote.Ref.{now}
