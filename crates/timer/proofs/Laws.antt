@@ -1,14 +1,13 @@
--- What the functions' proofs share: a timer's place is one of six, deadlines have a smallest, and a back-off fits. Assumes nothing.
+-- What the functions' proofs share: a timer's place is one of six, deadlines have a smallest, and an interval doubled up to rto_max is the back-off, which fits. Assumes nothing.
 use mathlib.Core.Path.{_≡_, refl, ap, _∙_}
 use mathlib.Core.List.{map}
 use mathlib.Core.Bool.{Bool, true, false, cond, _&&_}
-use Prim.Native.Nat.{ℕ, _+_, _*_, _^_, _%_, _≤_, _<_, min}
-use native.Mathlib.Nat.{mul-le-mul, mod-eq-of-lt, min-le-right, le-trans}
+use Prim.Native.Nat.{ℕ, zero, suc, _+_, _-_, _*_, _^_, _≤_, _<_, min}
+use native.Mathlib.Nat.{add-mul, mul-assoc, pow-suc, min-le-right, le-trans}
 use native.Mathlib.Numerals.{add-one}
 use native.Mathlib.Omega.{arith}
-use borrow.Author.Tests.{leb-true, ltb-true, ltb-false}
+use borrow.Author.Tests.{leb-true, ltb-true, ltb-false, lt-ltb, le-ltb}
 use lib.Dec.{lit<, leb, ltb, eqb}
-use lib.Pow.{pow-mono}
 use lib.ListN.{getD, drop, length}
 use lib.Seq.{drop-cons}
 use Rattle.limits.specs.Limits.{clockMax, settingMax}
@@ -20,8 +19,9 @@ use Rattle.limits.specs.declared.Moment.the-variants.{Absent, At}
 use Rattle.timer.specs.declared.TimerTable.{TimerTable}
 use Rattle.limits.specs.Moments.{earlier}
 use Rattle.timer.specs.Entries.{place, order, timerAt}
-use Rattle.timer.specs.Timers.{entryOf, backoff, waitOf}
+use Rattle.timer.specs.Timers.{entryOf, backoff, doubling, waitOf}
 use Rattle.timer.specs.Calls.{getOf, soonest, startable}
+use Rattle.timer.specs.Claims.{SameWaits}
 
 pub place-below : (timer : Timer) → place timer < 6
 place-below T1Init = lit< tt
@@ -74,11 +74,43 @@ in-range now interval e =
     let tests = both (leb now clockMax) (leb interval settingMax) e in
     (leb-true now clockMax (tests .0), leb-true interval settingMax (tests .1))
 
--- a doubled interval loses no bit
-pub doubled-fits : (interval n : ℕ) → interval ≤ settingMax → n < 31 → interval * 2 ^ n % 18446744073709551616 ≡ interval * 2 ^ n
-doubled-fits interval n h k =
-    let small : interval * 2 ^ n ≤ settingMax * 2 ^ 31 = mul-le-mul h (pow-mono {i = n} {j = 31} (omega arith)) in
-    mod-eq-of-lt (omega arith)
+-- with rto_max reached, doubling stops
+pub doubling-stops : (x n m : ℕ) → m ≤ x → doubling x n m ≡ m
+doubling-stops x zero m h = rw (le-ltb x m h)
+doubling-stops x (suc n) m h = rw (le-ltb x m h)
+
+-- below that it ends with the count, or goes on
+pub doubling-ends : (x m : ℕ) → x < m → doubling x 0 m ≡ x
+doubling-ends x m h = rw (lt-ltb x m h)
+
+pub doubling-on : (x n m : ℕ) → x < m → 0 < n → doubling (x + x) (n - 1) m ≡ doubling x n m
+doubling-on x zero m h k = absurd (omega arith)
+doubling-on x (suc n) m h k = let e : suc n - 1 ≡ n = omega arith in rw (e, lt-ltb x m h)
+
+-- doubled once, and then n times
+twice : (x n : ℕ) → (x + x) * 2 ^ n ≡ x * 2 ^ suc n
+twice x n = rw (pow-suc 2 n) (omega (arith, add-mul x x (2 ^ n), mul-assoc x (2 ^ n) 2))
+
+-- doubled, an interval gets no shorter
+no-shorter : (x n : ℕ) → x ≤ x * 2 ^ n
+no-shorter x zero = omega arith
+no-shorter x (suc n) = omega (arith, no-shorter (x + x) n, twice x n)
+
+-- doubling up to rto_max gives the smaller of rto_max and the interval doubled all the times
+doubling-is : (x n m : ℕ) → doubling x n m ≡ min (x * 2 ^ n) m
+doubling-is x zero m = by-test (ltb x m) refl
+  where
+    by-test : (b : Bool) → ltb x m ≡ b → cond b x m ≡ min (x * 2 ^ 0) m
+    by-test true e = omega (arith, ltb-true x m e)
+    by-test false e = omega (arith, ltb-false x m e)
+doubling-is x (suc n) m = by-test (ltb x m) refl (doubling-is (x + x) n m)
+  where
+    by-test : (b : Bool) → ltb x m ≡ b → doubling (x + x) n m ≡ min ((x + x) * 2 ^ n) m → cond b (doubling (x + x) n m) m ≡ min (x * 2 ^ suc n) m
+    by-test true e h = h ∙ ap (λ (i : ℕ). min i m) (twice x n)
+    by-test false e h = omega (arith, ltb-false x m e, no-shorter x (suc n))
+
+pub same-waits : SameWaits
+same-waits interval n rtoMax = ap (λ (i : ℕ). cond (ltb n 31) i rtoMax) (doubling-is interval n rtoMax)
 
 -- the back-off never passes its ceiling
 pub backoff-below : (interval n rtoMax : ℕ) → backoff interval n rtoMax ≤ rtoMax

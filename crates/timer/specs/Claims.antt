@@ -3,7 +3,8 @@ use Prim.Native.Nat.{ℕ, _+_, _≤_}
 use mathlib.Core.Path.{_≡_}
 use mathlib.Core.Logic.{_⊎_}
 use mathlib.Core.List.{List, [], _∷_}
-use mathlib.Core.Bool.{false}
+use mathlib.Core.Bool.{false, cond}
+use lib.Dec.{ltb}
 use lib.ListN.{length}
 use Rattle.limits.specs.Limits.{clockMax, settingMax, countMax}
 use Rattle.limits.specs.Refusals.{beyondLimit, countFull}
@@ -17,7 +18,7 @@ use Rattle.timer.specs.declared.Answer.the-variants.{Refused}
 use Rattle.timer.specs.declared.Expiry.the-variants.{Refused as Denied}
 use Rattle.limits.specs.Moments.{beyond}
 use Rattle.timer.specs.Entries.{place, order, timerAt}
-use Rattle.timer.specs.Timers.{entryOf}
+use Rattle.timer.specs.Timers.{entryOf, backoff, doubling}
 use Rattle.timer.specs.Calls.{numberOf, expiryNumber, countOf, newOf, setOf, startOf, restartIfStaleOf, stopOf, resetRetransOf, suppressErrorCountOf, isExpiredOf}
 
 -- a call on a table, with its arguments
@@ -73,6 +74,10 @@ pub record Within (e : Entry) : Type 0 where
 -- the order and the places agree
 abbrev pub PlacesAgree : Type 0
 PlacesAgree = (timer : Timer) → timerAt (place timer) ≡ Value timer
+
+-- for every interval, count and rto_max, 0 too: doubling below 31, and rto_max from there on, is the back-off
+abbrev pub SameWaits : Type 0
+SameWaits = (interval n rtoMax : ℕ) → cond (ltb n 31) (doubling interval n rtoMax) rtoMax ≡ backoff interval n rtoMax
 
 -- from a new table, every timer stays within the limits, whatever is called
 abbrev pub StaysWithin : Type 0

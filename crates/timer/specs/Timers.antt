@@ -1,5 +1,5 @@
 -- Document 01, "Leaves first": the table that holds the six timers, and the rules for one timer.
-use Prim.Native.Nat.{ℕ, _*_, _^_, min}
+use Prim.Native.Nat.{ℕ, zero, suc, _+_, _*_, _^_, min}
 use mathlib.Core.Bool.{Bool, cond}
 use lib.Dec.{ltb, eqb}
 use lib.ListN.{getD, set}
@@ -36,6 +36,11 @@ withDeadline t timer d =
 -- the smaller of interval x 2^n and rto_max for n below 31, and rto_max from 31 on
 abbrev pub backoff : ℕ → ℕ → ℕ → ℕ
 backoff interval n rtoMax = cond (ltb n 31) (min (interval * 2 ^ n) rtoMax) rtoMax
+
+-- an interval doubled a number of times, where doubling stops once rto_max is reached
+abbrev pub doubling : (interval times rtoMax : ℕ) → ℕ
+doubling interval zero rtoMax = cond (ltb interval rtoMax) interval rtoMax
+doubling interval (suc times) rtoMax = cond (ltb interval rtoMax) (doubling (interval + interval) times rtoMax) rtoMax
 
 -- how long a started timer waits: Ack its interval, the others the back-off by their count
 abbrev pub waitOf : TimerTable → Timer → ℕ → ℕ

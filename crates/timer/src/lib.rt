@@ -144,18 +144,26 @@ pub fn startable(now: u64, interval: u64) -> bool
     interval <= limits::SETTING_MAX
 }
 
-// The wait before the next expiry: doubled for each one counted, up to `rto_max`.
+// The wait before the next expiry: the interval, doubled for each one counted, up to `rto_max`. From 31 counted on it is `rto_max` for every interval,
+// even for 0, which doubling leaves 0.
 pub fn calculate_next_timeout(rto: u32, n_rtos: u32, rto_max: u32) -> u64
     ensures { λ r. ⌜ r ≡ backoff rto «n_rtos» «rto_max» ⌝ }
 {
+    let ceiling = rto_max as u64;
     if n_rtos >= 31 {
-        return rto_max as u64;
+        return ceiling;
     }
-    let doubled = (rto as u64) << n_rtos;
-    if doubled < rto_max as u64 {
-        return doubled;
+    let mut wait = rto as u64;
+    let mut left = n_rtos;
+    // Doubling stops once `rto_max` is reached: that is the ceiling, and no wait is longer.
+    while wait < ceiling {
+        if left == 0 {
+            return wait;
+        }
+        wait += wait;
+        left -= 1;
     }
-    rto_max as u64
+    ceiling
 }
 
 impl TimerTable {

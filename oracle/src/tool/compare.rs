@@ -7,10 +7,10 @@ use std::sync::mpsc::{Receiver, sync_channel};
 use std::thread;
 use std::time::Instant;
 
-use crate::generator::{Script, script};
+use crate::generator::{Profile, Script, script};
 use crate::long::LONG;
 use crate::options::Options;
-use crate::profiles::PROFILES;
+use crate::profiles::{PROFILES, profile};
 use crate::script::{calls, first_difference, lines, without};
 use crate::shrink::{differs_at, shrunk};
 use crate::sides::{Answers, Side, run_both};
@@ -26,7 +26,7 @@ pub fn compare(options: &Options, oracle: &Side, port: &Side, found: &Path) -> i
     let start = Instant::now();
     let mut tally = Tally::new();
     let mut number = 0;
-    for batch in batches(options) {
+    for batch in batches(options, kinds(options)?) {
         let text: String = batch.iter().map(|script| script.text.as_str()).collect();
         let (ours, theirs) = run_both(oracle, port, text.as_bytes())?;
         if ours != theirs {
@@ -61,12 +61,19 @@ pub fn compare_file(file: &Path, oracle: &Side, port: &Side) -> io::Result<bool>
     Ok(true)
 }
 
+/// The kinds that the scripts have in turn: all, or the one that is asked for.
+fn kinds(options: &Options) -> io::Result<Vec<&'static Profile>> {
+    let Some(name) = &options.kind else { return Ok(PROFILES.to_vec()) };
+    let unknown = || io::Error::other(format!("no kind of scripts is called {name}"));
+    Ok(vec![profile(name).ok_or_else(unknown)?])
+}
+
 /// The scripts in batches; the next ones are made while the sides run.
-fn batches(options: &Options) -> Receiver<Vec<Script>> {
+fn batches(options: &Options, kinds: Vec<&'static Profile>) -> Receiver<Vec<Script>> {
     let (give, take) = sync_channel(1);
     let options = options.clone();
     thread::spawn(move || {
-        let short = (0..options.scripts).map(|number| script(options.seed, number, &PROFILES, options.calls));
+        let short = (0..options.scripts).map(|number| script(options.seed, number, &kinds, options.calls));
         let long = LONG.into_iter().filter(|_| options.long).map(|make| make(options.seed, options.calls));
         let mut batch = Vec::new();
         let mut made = 0;

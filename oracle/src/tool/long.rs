@@ -2,21 +2,22 @@
 
 use crate::data::LONGEST;
 use crate::generator::{Generator, Profile, Script, U32_MAX};
-use crate::profiles::PROFILES;
+use crate::profiles::profile;
 use crate::random::Random;
 
-pub const LONG: [fn(u64, usize) -> Script; 5] = [wrapped_ssn, full_buffer, tiny_variance, longest_sack, last_data];
+pub const LONG: [fn(u64, usize) -> Script; 6] =
+    [wrapped_ssn, full_buffer, tiny_variance, longest_sack, last_data, doubled_waits];
 /// The streams of their random numbers: far from those of the other scripts.
 const STREAM: u64 = 1 << 60;
 
-fn profile(name: &str) -> &'static Profile {
-    PROFILES.into_iter().find(|profile| profile.name == name).expect("the profile exists")
+fn kind(name: &str) -> &'static Profile {
+    profile(name).expect("the kind exists")
 }
 
 /// Empty messages use up a stream's SSNs; then lifetimes end on both sides of the wrap.
 fn wrapped_ssn(seed: u64, calls: usize) -> Script {
     let mut g = Generator::new(Random::new(seed, STREAM));
-    let lifetimes = profile("lifetimes");
+    let lifetimes = kind("lifetimes");
     g.begin(lifetimes);
     let sid = g.oracle.open()[0];
     g.say(format_args!("rel {sid} 0 2 3"));
@@ -33,8 +34,8 @@ fn wrapped_ssn(seed: u64, calls: usize) -> Script {
 /// Messages that expire at once, and whose bytes nobody releases; then writes around the limit of the buffered amount.
 fn full_buffer(seed: u64, calls: usize) -> Script {
     let mut g = Generator::new(Random::new(seed, STREAM + 1));
-    let streams = profile("streams");
-    g.begin(profile("timers"));
+    let streams = kind("streams");
+    g.begin(kind("timers"));
     let sid = g.oracle.open()[0];
     let length = 65_515;
     g.say(format_args!("open 500 {length}"));
@@ -70,7 +71,7 @@ fn buffered(g: &Generator, sid: u16) -> u64 {
 /// Equal measurements, until rttvar has fallen through the smallest floats.
 fn tiny_variance(seed: u64, calls: usize) -> Script {
     let mut g = Generator::new(Random::new(seed, STREAM + 2));
-    let estimator = profile("estimator");
+    let estimator = kind("estimator");
     g.begin(estimator);
     for rtt in [1, 600, U32_MAX] {
         g.say(format_args!("rreset"));
@@ -86,7 +87,7 @@ fn tiny_variance(seed: u64, calls: usize) -> Script {
 /// A SACK with as many blocks as its length field can tell, over a full flight whose TSNs wrap: refused for its last block, then taken.
 fn longest_sack(seed: u64, calls: usize) -> Script {
     let mut g = Generator::new(Random::new(seed, STREAM + 3));
-    let sacks = profile("sacks");
+    let sacks = kind("sacks");
     g.begin(sacks);
     let first = U32_MAX - g.random.below(200);
     g.say(format_args!("sender {first} 0"));
@@ -103,7 +104,7 @@ fn longest_sack(seed: u64, calls: usize) -> Script {
 /// DATA chunks of the last stream whose SSNs and TSNs wrap, ordered and not; then the longest fragments.
 fn last_data(seed: u64, calls: usize) -> Script {
     let mut g = Generator::new(Random::new(seed, STREAM + 4));
-    let data = profile("data");
+    let data = kind("data");
     g.begin(data);
     let first = U32_MAX - g.random.below(12);
     g.say(format_args!("sender {first} 0"));
@@ -126,4 +127,27 @@ fn last_data(seed: u64, calls: usize) -> Script {
     }
     g.go_on(data, g.made() + calls / 2);
     Script { name: "last-data", text: g.finish() }
+}
+
+/// Every count up to 33, with intervals of every length, and for each the ceilings at the doubled wait, beside it and at both ends.
+fn doubled_waits(seed: u64, calls: usize) -> Script {
+    let mut g = Generator::new(Random::new(seed, STREAM + 5));
+    let timers = kind("timers");
+    g.begin(timers);
+    for count in 0..34 {
+        for bits in 0..=32 {
+            let interval = g.random.below(1 << bits);
+            let doubled = interval << count.min(31);
+            for ceiling in [0, doubled.saturating_sub(1), doubled, doubled + 1, doubled / 2 + 1, U32_MAX] {
+                g.say(format_args!("timers 8 10 {}", ceiling.min(U32_MAX)));
+                let timer = g.random.below(6);
+                g.say(format_args!("setcount {timer} {count}"));
+                let (call, now) = (g.random.pick(&["tstart", "trestart"]), g.now);
+                g.say(format_args!("{call} {timer} {now} {interval}"));
+                g.say(format_args!("tget {timer}"));
+            }
+        }
+    }
+    g.go_on(timers, g.made() + calls);
+    Script { name: "doubled-waits", text: g.finish() }
 }

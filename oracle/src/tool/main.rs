@@ -51,6 +51,7 @@ fn run() -> Result<bool, String> {
         seed,
         port: root.join("tools/replay"),
         script: None,
+        kind: None,
         long: true,
         without: None,
         folder: root.join("crates/replay"),

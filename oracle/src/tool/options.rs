@@ -10,6 +10,8 @@ pub struct Options {
     pub port: PathBuf,
     /// A file that is compared in place of made scripts.
     pub script: Option<PathBuf>,
+    /// The one kind of which all but the long scripts are; without it they are of each kind in turn.
+    pub kind: Option<String>,
     /// Whether the long scripts run too.
     pub long: bool,
     /// A call that is left out of every script.
@@ -28,6 +30,7 @@ impl Options {
                 "--seed" => self.seed = number(&value()?)?,
                 "--port" => self.port = value()?.into(),
                 "--script" => self.script = Some(value()?.into()),
+                "--kind" => self.kind = Some(value()?),
                 "--short" => self.long = false,
                 "--without" => self.without = Some(value()?),
                 _ if word.starts_with('-') => return Err(format!("unknown option {word}")),

@@ -340,6 +340,11 @@ pub const PROFILES: [&Profile; 15] = [
     },
 ];
 
+/// The kind of this name.
+pub fn profile(name: &str) -> Option<&'static Profile> {
+    PROFILES.into_iter().find(|profile| profile.name == name)
+}
+
 // ---- the sender
 
 impl Generator {

@@ -54,6 +54,7 @@ faults! {
     refused_data_clears_the_wire data_counts_as_sent data_takes_the_mark
     fill_repeats sender_lends_anew sender_clears_the_wire sender_clears_the_memory
     restart_at_the_deadline timer_alive_at_the_deadline backoff_ends_at_30 backoff_ends_at_32 ack_capped
+    backoff_without_ceiling backoff_one_doubling_short backoff_stays_below_the_ceiling
     failure_at_the_maximum suppression_stays suppressed_expiry_refused stop_keeps_count reset_stops
     next_timeout_without_ack fresh_restart_tests_nothing
     srtt_before_rttvar first_by_a_flag rto_rounded srtt_rounded rttvar_in_another_order reset_clamps
@@ -1063,6 +1064,32 @@ fn backoff_ends_at_32(o: &mut Oracle, call: &Call, out: &mut String) -> Option<A
         return None;
     }
     deadline_after(o, timer, now, (interval << 31).min(o.timers.probe_rto_max()), out)
+}
+
+/// A start whose wait is doubled: its count is below 31, and it is not Ack's.
+fn doubling(o: &Oracle, call: &Call) -> Option<(Timer, u64, u64, u32)> {
+    let (timer, now, interval) = starting(o, call)?;
+    let count = o.timers.probe(timer).count;
+    (timer != Timer::Ack && count < 31).then_some((timer, now, interval, count as u32))
+}
+
+fn backoff_without_ceiling(o: &mut Oracle, call: &Call, out: &mut String) -> Option<Answer> {
+    let (timer, now, interval, count) = doubling(o, call)?;
+    deadline_after(o, timer, now, interval << count, out)
+}
+
+fn backoff_one_doubling_short(o: &mut Oracle, call: &Call, out: &mut String) -> Option<Answer> {
+    let (timer, now, interval, count) = doubling(o, call)?;
+    let wait = interval << count.saturating_sub(1);
+    deadline_after(o, timer, now, wait.min(o.timers.probe_rto_max()), out)
+}
+
+/// Doubling that stops one step before the ceiling would be reached, and answers the wait of that step.
+fn backoff_stays_below_the_ceiling(o: &mut Oracle, call: &Call, out: &mut String) -> Option<Answer> {
+    let (timer, now, interval, count) = doubling(o, call)?;
+    let ceiling = o.timers.probe_rto_max();
+    let below = (0..=count).rev().map(|times| interval << times).find(|wait| *wait <= ceiling);
+    deadline_after(o, timer, now, below.unwrap_or(ceiling), out)
 }
 
 fn ack_capped(o: &mut Oracle, call: &Call, out: &mut String) -> Option<Answer> {
