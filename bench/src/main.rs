@@ -109,7 +109,13 @@ fn take_questions(task: &mut Task) {
 }
 
 fn take_timers(task: &mut Task) {
-    for job in [TimerJob::Start, TimerJob::ExpiryAndBackOff, TimerJob::NextTimeout, TimerJob::Measure] {
+    for job in [
+        TimerJob::Start,
+        TimerJob::ExpiryAndBackOff,
+        TimerJob::MostDoublings,
+        TimerJob::NextTimeout,
+        TimerJob::Measure,
+    ] {
         task.take(job);
     }
 }

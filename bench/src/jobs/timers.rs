@@ -17,6 +17,7 @@ fn times<C: Clockwork>(timers: &C, first: u64) -> [C::Time; TIMES] {
 pub enum TimerJob {
     Start,
     ExpiryAndBackOff,
+    MostDoublings,
     NextTimeout,
     Measure,
 }
@@ -33,6 +34,7 @@ impl TimerJob {
                 }
                 timers.start(T3_RTX, now, 1000);
             }
+            TimerJob::MostDoublings => timers.start(T3_RTX, now, 0),
             TimerJob::NextTimeout => answers.flag(timers.next_timeout().is_some()),
             TimerJob::Measure => answers.number(timers.measure(100 + (turn as u64 * 7919) % 400)),
         }
@@ -46,6 +48,7 @@ impl Job for TimerJob {
             TimerJob::ExpiryAndBackOff => {
                 "timers: expiry, then start with back-off (two calls; a stop after eight)".into()
             }
+            TimerJob::MostDoublings => "timers: start with an interval of 0, 30 expiries counted".into(),
             TimerJob::NextTimeout => "timers: next timeout, three set".into(),
             TimerJob::Measure => "RTO: measure".into(),
         }
@@ -58,6 +61,9 @@ impl Job for TimerJob {
         let mut timers = S::Timers::fresh();
         let (now, late) = (times(&timers, 1), times(&timers, 100_000));
         [T1_INIT, T3_RTX, ACK].iter().for_each(|timer| timers.start(*timer, now[0], 900));
+        if let TimerJob::MostDoublings = self {
+            (0..30).for_each(|_| drop(timers.is_expired(T3_RTX, late[0])));
+        }
         watch.time(repetitions, |answers| {
             for turn in 0..repetitions {
                 let i = turn % TIMES;

@@ -1,4 +1,4 @@
-//! Scripts that take very many calls to get to their place: they run after the others.
+//! Scripts that take very many calls to get to their place, or go to very many places: they run after the others.
 
 use crate::data::LONGEST;
 use crate::generator::{Generator, Profile, Script, U32_MAX};
