@@ -62,7 +62,9 @@ impl Job for TimerJob {
         let (now, late) = (times(&timers, 1), times(&timers, 100_000));
         [T1_INIT, T3_RTX, ACK].iter().for_each(|timer| timers.start(*timer, now[0], 900));
         if let TimerJob::MostDoublings = self {
-            (0..30).for_each(|_| drop(timers.is_expired(T3_RTX, late[0])));
+            for _ in 0..30 {
+                timers.is_expired(T3_RTX, late[0]);
+            }
         }
         watch.time(repetitions, |answers| {
             for turn in 0..repetitions {
