@@ -6,7 +6,7 @@ use mathlib.Core.List.{List, [], _∷_}
 use mathlib.Core.Bool.{Bool, true, false, cond, not}
 use native.Mathlib.Omega.{arith}
 use borrow.Author.Tests.{le-ltb, ltb-false, leb-false, not-true}
-use lib.Dec.{leb, lit≤}
+use lib.Dec.{leb, ltb, lit≤}
 use lib.ListN as ListN
 use lib.Seq.{getD-set-same}
 use Rattle.limits.specs.Limits.{clockMax, settingMax, countMax}
@@ -28,8 +28,8 @@ use Rattle.timer.specs.Entries.{place, idleEntry, failsAt}
 use Rattle.timer.specs.Timers.{entryOf, withEntry, withDeadline, withCount, withSuppression, waitOf}
 use Rattle.timer.specs.Calls.{numberOf, expiryNumber, countOf, done, refused, told, denied, guarded, maximumOf, fresh, newOf, getOf, startable, startedOf, expiryOf, isExpiredOf}
 use Rattle.timer.specs.Claims.{Call, set, get, nextTimeout, start, restartIfStale, stop, resetRetrans, suppressErrorCount, isExpired}
-use Rattle.timer.specs.Claims.{called, after, latest, Within, PlacesAgree, StaysWithin, RefusalKeeps, RefusalsAreListed, CountIsKept}
-use Rattle.timer.proofs.Laws.{place-below, in-range, wait-below}
+use Rattle.timer.specs.Claims.{called, after, latest, Within, PlacesAgree, SameWaits, StaysWithin, RefusalKeeps, RefusalsAreListed, CountIsKept}
+use Rattle.timer.proofs.Laws.{place-below, in-range, doubling-is, wait-below}
 
 pub places-agree : PlacesAgree
 places-agree T1Init = refl
@@ -38,6 +38,9 @@ places-agree T2Shutdown = refl
 places-agree T3RTX = refl
 places-agree Reconfig = refl
 places-agree Ack = refl
+
+pub same-waits : SameWaits
+same-waits interval n rtoMax = ap (λ (i : ℕ). cond (ltb n 31) i rtoMax) (doubling-is interval n rtoMax)
 
 -- ---- the ways out of a call, each shown to have what is asked of all
 guarded-cases : (P : Changed → Type 0) (allowed : Bool) (u t : TimerTable) → (allowed ≡ true → P (done u)) → P (refused beyondLimit t) → P (guarded allowed u t)

@@ -1,4 +1,5 @@
--- What the functions' proofs share: a timer's place is one of six, deadlines have a smallest, and an interval doubled up to rto_max is the back-off, which fits. Assumes nothing.
+-- What the functions' proofs share: a timer's place is one of six, deadlines have a smallest, doubling up to rto_max gives the smaller of it and the whole, and no
+-- back-off is above it. Assumes nothing.
 use mathlib.Core.Path.{_≡_, refl, ap, _∙_}
 use mathlib.Core.List.{map}
 use mathlib.Core.Bool.{Bool, true, false, cond, _&&_}
@@ -21,7 +22,6 @@ use Rattle.limits.specs.Moments.{earlier}
 use Rattle.timer.specs.Entries.{place, order, timerAt}
 use Rattle.timer.specs.Timers.{entryOf, backoff, doubling, waitOf}
 use Rattle.timer.specs.Calls.{getOf, soonest, startable}
-use Rattle.timer.specs.Claims.{SameWaits}
 
 pub place-below : (timer : Timer) → place timer < 6
 place-below T1Init = lit< tt
@@ -97,7 +97,7 @@ no-shorter x zero = omega arith
 no-shorter x (suc n) = omega (arith, no-shorter (x + x) n, twice x n)
 
 -- doubling up to rto_max gives the smaller of rto_max and the interval doubled all the times
-doubling-is : (x n m : ℕ) → doubling x n m ≡ min (x * 2 ^ n) m
+pub doubling-is : (x n m : ℕ) → doubling x n m ≡ min (x * 2 ^ n) m
 doubling-is x zero m = by-test (ltb x m) refl
   where
     by-test : (b : Bool) → ltb x m ≡ b → cond b x m ≡ min (x * 2 ^ 0) m
@@ -108,9 +108,6 @@ doubling-is x (suc n) m = by-test (ltb x m) refl (doubling-is (x + x) n m)
     by-test : (b : Bool) → ltb x m ≡ b → doubling (x + x) n m ≡ min ((x + x) * 2 ^ n) m → cond b (doubling (x + x) n m) m ≡ min (x * 2 ^ suc n) m
     by-test true e h = h ∙ ap (λ (i : ℕ). min i m) (twice x n)
     by-test false e h = omega (arith, ltb-false x m e, no-shorter x (suc n))
-
-pub same-waits : SameWaits
-same-waits interval n rtoMax = ap (λ (i : ℕ). cond (ltb n 31) i rtoMax) (doubling-is interval n rtoMax)
 
 -- the back-off never passes its ceiling
 pub backoff-below : (interval n rtoMax : ℕ) → backoff interval n rtoMax ≤ rtoMax

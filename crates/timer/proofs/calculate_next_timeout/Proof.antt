@@ -7,7 +7,8 @@ use Prim.Native.Nat.{ℕ}
 use native.Mathlib.Omega.{arith}
 use borrow.Author.Tests.{le-ltb, lt-ltb}
 use Rattle.timer.specs.Timers.{backoff, doubling}
-use Rattle.timer.proofs.Laws.{doubling-stops, doubling-ends, doubling-on, same-waits}
+use Rattle.timer.proofs.Laws.{doubling-stops, doubling-ends, doubling-on}
+use Rattle.timer.proofs.Claims.{same-waits}
 use Rattle.timer.proofs.calculate_next_timeout.Statement.{statement}
 use Rattle.timer.proofs.calculate_next_timeout.Tie as tie
 
