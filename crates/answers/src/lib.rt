@@ -1,5 +1,7 @@
 // What the calls of the sender answer in a script, as lines in a lent buffer: a chunk and a stream here, each call's answer in `sender`, the whole
 // state in `state`, and what is of the script's bytes in `arrays`.
+#![tactic(auto)]
+
 pub mod arrays;
 pub mod sender;
 pub mod state;

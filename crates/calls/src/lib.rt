@@ -1,6 +1,8 @@
 // Every call of the sender as a value, and one function that takes any of them: what a script or a list of calls is made of. Only the list
 // of expired TSNs, for which a list is lent, stays a call of its own. `meant` of specs/ says which of the model's calls a value is, and
 // `said` which of its answers.
+#![tactic(auto)]
+
 ghost use Rattle.std.specs.Prelude.{◌≡◌, true};
 ghost use Rattle.model.specs.Calls.{answer};
 ghost use Rattle.sender_head.specs.Whole.{sender_of, Counted};

@@ -2,6 +2,8 @@
 // a slot's words mean: `chunk_slot` a chunk's, and `stream_table::slot` a stream's. What a slice holds is there
 // the list `chunks` or `streams` of specs/, for every words at all, and a call reads or changes one element of it. Past the end a load is
 // blank and a store nothing, so no call asks anything of its caller.
+#![tactic(auto)]
+
 ghost use Rattle.std.specs.Prelude.{◌≡◌, [], ◌∷◌, ◌≤◌};
 ghost use Rattle.cells.specs.Slots.{room_of, written};
 ghost use Rattle.cells.specs.Words.{bit_of, flags_of, low_of, high_of};

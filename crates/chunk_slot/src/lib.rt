@@ -1,5 +1,7 @@
 // A chunk in a slot: its words are, in order, the message number, the deadline, the since, the offset, the payload type with the
 // reliability's value, the length with nsent, and the marks. The eighth is left, and a store leaves it as it is.
+#![tactic(auto)]
+
 pub mod marks;
 pub mod parts;
 

@@ -1,4 +1,6 @@
 // The calls of the timers and of the estimator in a script: as values, made, and answered by lines in a lent buffer.
+#![tactic(auto)]
+
 use limits::Moment;
 use rto::{Made, Measured, RtoManager, Set};
 use timer::{Answer, Changed, Entry, Expiry, Maximum, Timer, TimerTable};

@@ -1,5 +1,7 @@
 // A request in eight words: which one it is, then its arguments. Any words are one: a number that an argument cannot have is taken modulo
 // what it can. A SACK is told by where its bytes stand. specs/Coded.antt has the table.
+#![tactic(auto)]
+
 pub mod answers;
 pub mod tape;
 

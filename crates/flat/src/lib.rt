@@ -1,4 +1,6 @@
 // 01's sender as a C caller hears it: structs of numbers alone. `replies` gives the flat reply of each answer.
+#![tactic(auto)]
+
 pub mod replies;
 
 use sender_head::Head;

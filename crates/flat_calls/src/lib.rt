@@ -1,5 +1,7 @@
 // Every call over a head and the lent cells, its answer flat: what the exported forms are thin over. Each is one call of the layer below and
 // the flat reply of its answer; the questions change nothing. Written by tools/thin from tools/calls.table.
+#![tactic(auto)]
+
 ghost use Rattle.sender_head.specs.Whole.{room_in};
 ghost use Rattle.flat_calls.specs.Says.{Init, OpenStream, SetReliabilityParams, SetBufferedAmountLowThreshold, SetBufferedAmountHighThreshold, OnBufferReleased, Write, StartTimedMessages, SendNext, ExpirePending, ExpirePendingTail, Abandon};
 ghost use Rattle.flat_calls.specs.Says.{MarkAsAcked, Pop, HandleSack, MarkAllToRetransmit, ExpiredInflight, DataChunk, Get, IsAbandoned, PeekPending, NextMessageId, NextTsn, PendingLen};

@@ -1,6 +1,8 @@
 // 01's sender as a host holds it: one struct, and thin functions over a reference to it. Each lends the cells to a function of the flat layer,
 // and copies the head out and in; no call copies the cells. A host that hands over any bytes at all is safe: each bit pattern of the struct is a
 // sender. Written by tools/thin from tools/calls.table.
+#![tactic(auto)]
+
 ghost use Rattle.lent.specs.Says.{Init, OpenStream, SetReliabilityParams, SetBufferedAmountLowThreshold, SetBufferedAmountHighThreshold, OnBufferReleased, Write, StartTimedMessages, SendNext, ExpirePending, ExpirePendingTail, Abandon};
 ghost use Rattle.lent.specs.Says.{MarkAsAcked, Pop, HandleSack, MarkAllToRetransmit, ExpiredInflight, DataChunk, Get, IsAbandoned, PeekPending, NextMessageId, NextTsn, PendingLen};
 ghost use Rattle.lent.specs.Says.{PendingBytes, InflightLen, InflightBytes, EarliestOutstandingTsn, PendingContainsStream, ContainsStream, BufferedAmount, BufferedAmountLowThreshold, BufferedAmountHighThreshold, Stats, OldestTsn, RingRoom};

@@ -1,6 +1,8 @@
 // The round-trip estimator as a host holds it: one struct, and thin functions over a reference to it. Each lends the words to a function of
 // `rto_cells`, and copies the head out and in. A host that hands over any bytes at all is safe: each bit pattern of the struct is an estimator. A
 // refused call leaves every number, creation too. A call that only changes the estimator answers a refusal's number, or 0.
+#![tactic(auto)]
+
 ghost use Rattle.lent_rto.specs.Says.{New, SetNewRtt, GetRto, Reset, SetRto};
 
 use rto_cells::{Head, Smoothed};

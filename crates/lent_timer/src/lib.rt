@@ -2,6 +2,8 @@
 // and copies the head out and in. A host that hands over any bytes at all is safe: each bit pattern of the struct is a table of timers. A timer is
 // named by its place in `Timer::VALUES`, and a place beyond the six is refused with 1. A call touches only the timer that it names, and a refused
 // one leaves every word. A call that changes the timers answers a refusal's number, or 0.
+#![tactic(auto)]
+
 ghost use Rattle.lent_timer.specs.Says.{New, NextTimeout, Get, Set, Start, RestartIfStale, Stop, ResetRetrans, SuppressErrorCount, IsExpired};
 
 use timer_cells::{Due, Expired, Head};

@@ -1,4 +1,6 @@
 // Document 01, "Numbers" and "What the caller hears": each limit and each refusal, once, by name; and a moment of the clock.
+#![tactic(auto)]
+
 ghost use Rattle.std.specs.Prelude.{◌≡◌};
 ghost use Rattle.limits.specs.Moments.{passed, ahead, beyond, earlier};
 

@@ -1,5 +1,7 @@
 // Lines of text in a lent buffer: each function puts its text at a place and says where the next stands. A full buffer is written to standard
 // output and begun anew, so that a run of lines costs few calls of the system.
+#![tactic(auto)]
+
 ghost use Rattle.std.specs.Prelude.{◌+◌, ◌≤◌, ◌<◌};
 
 use libc::STDOUT_FILENO;

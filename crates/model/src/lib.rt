@@ -1,4 +1,6 @@
 // The plain data that every crate of the sender shares. What the calls do with it is said in specs/, after document 01.
+#![tactic(auto)]
+
 use limits::Moment;
 
 // How a message is kept alive: kind 1 is Rexmit, 2 is Timed, any other Reliable; the value is a count or a lifetime.

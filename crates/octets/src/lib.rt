@@ -1,5 +1,7 @@
 // Numbers of 16 and 32 bits in bytes, the highest first, as the chunks of RFC 9260 have them. A byte past the end reads as 0 and is not
 // written, so no call asks anything of its caller.
+#![tactic(auto)]
+
 ghost use Rattle.std.specs.Prelude.{◌≡◌, [], ◌∷◌, ◌-◌, min};
 ghost use Rattle.std.proofs.lemmas.List.Edits.{sets};
 ghost use Rattle.octets.specs.Numbers.{byte_at, short_at, long_at, short_bytes, long_bytes, zeros};

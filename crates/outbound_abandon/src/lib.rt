@@ -1,6 +1,8 @@
 // A message is abandoned: one that was sent in part is cut off behind a terminator. The run of its entries around a place of the flight is given
 // up, and its leading run in each ring goes: in the states that calls reach that is all of it (`Does`: what the call does of any state at all, and
 // that in a `Good` one this is 01's).
+#![tactic(auto)]
+
 pub mod expiry;
 pub mod overdue;
 

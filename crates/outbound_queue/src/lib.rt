@@ -2,6 +2,8 @@
 // `sender_of` of specs/ reads the model's sender from them, for streams that the queue does not know, and each contract is an equation with
 // the model's call, for every record and every cells. What is asked of it stands in `asks`, and in `steps` and `flight_steps` what
 // the calls of `outbound_send` and `outbound_abandon` are made of.
+#![tactic(auto)]
+
 pub mod asks;
 pub mod flight_steps;
 pub mod steps;

@@ -1,5 +1,7 @@
 // What the peer's SACK does to the queue: the entries that its cumulative TSN covers go (`cover`), and of the others those that its blocks
 // cover are acknowledged (`gaps`). The sender behind it and the answer are the model's `sack`, for every queue, every cells and every bytes.
+#![tactic(auto)]
+
 pub mod cover;
 pub mod gaps;
 

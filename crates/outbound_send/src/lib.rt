@@ -1,6 +1,8 @@
 // Lifetimes start, and the head of what is pending goes to the flight. Lifetimes start at the ends of the rings alone, and none where every
 // message was seen: in the states that calls reach these are all that is not yet seen, so there each call is the model's (`Does`: what it
 // does of any state at all, and that in a `Good` one this is 01's).
+#![tactic(auto)]
+
 pub mod push;
 
 ghost use Rattle.std.specs.Prelude.{◌≡◌};

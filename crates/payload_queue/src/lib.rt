@@ -1,6 +1,8 @@
 // What is in flight: a ring of chunks in lent cells, oldest first, whose TSNs are consecutive modulo 2^32 from `oldest` on. `bytes` is
 // what they hold together, and no deadline of an entry that is not abandoned is below `due`. Every value of the numbers means some flight
 // (`flight_of`), so no call asks anything of its caller; that the counter is the sum and the bound is one is `Counted`, which every call keeps.
+#![tactic(auto)]
+
 pub mod asks;
 pub mod marks;
 pub mod overdue;

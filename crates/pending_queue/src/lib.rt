@@ -1,6 +1,8 @@
 // What is pending: two rings of chunks in lent cells, and which of them the message under way is in. The numbers and flags go by value,
 // and `pending_in` of specs/ reads the model's `Pending` from them and from the cells, for every value at all. `bytes` is kept as the
 // chunks come and go: where it was their sum (`Counted`), it is so after each call.
+#![tactic(auto)]
+
 pub mod asks;
 pub mod cutting;
 pub mod removal;

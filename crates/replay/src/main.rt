@@ -1,5 +1,7 @@
 // A script of calls from standard input, run on the sender, the timers and the estimator: a line of answers for each, as the Rust's own
 // driver writes them. What a line means is `script`'s, what is written `answers`' and its neighbours'.
+#![tactic(auto)]
+
 use calls::Call;
 use clock_calls::{RtoCall, TimerCall};
 use rto::{Made, RtoManager};

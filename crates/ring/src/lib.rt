@@ -1,6 +1,8 @@
 // A ring of chunks in lent cells. The two numbers go by value, the cells are a slice of words that the caller lends, and its length is
 // the ring's room. What a ring holds is the list `held`, for every value of the two numbers, so no call asks anything of its caller.
 // A caller's proof goes by that list: `count` is its length, `nth` its element, `push` its `++`, `shorter` its `drop 1`, `shorter_by` its `drop`.
+#![tactic(auto)]
+
 pub mod parts;
 
 ghost use Rattle.std.specs.Prelude.{◌≡◌, ◌%◌, ◌<◌, length, get_or, set, drop, ltb};

@@ -1,6 +1,8 @@
 // The round-trip estimator of document 01, "Leaves first" (RFC 4960, section 6.3.1).
 // Every call is total: a record that no call makes, with a NaN or a minimum above the maximum, gets an answer too.
 // What holds over any calls stands in specs/.
+#![tactic(auto)]
+
 ghost use Rattle.std.specs.Prelude.{◌≡◌, ◌+◌, ◌≤◌, max};
 ghost use Rattle.std.specs.Float.{binary64};
 ghost use Rattle.std.specs.Float.Ieee.{add, mul, div};

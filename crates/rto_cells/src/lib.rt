@@ -1,6 +1,8 @@
 // The round-trip estimator as numbers that the caller lends: three that measurements change, in a head, and four words, the settings and the flag. So head
 // and words are, byte for byte, the estimator of include/girdermoth.h. Any numbers mean an estimator (`manager_of` of specs/), and a refusal leaves
 // every one. The calls are those of `rto`.
+#![tactic(auto)]
+
 ghost use Rattle.std.specs.Prelude.{◌≡◌, true, ◌≤◌, length};
 ghost use Rattle.limits.specs.Limits.{setting_max};
 ghost use Rattle.limits.specs.Flags.{bit_of};

@@ -1,6 +1,8 @@
 // Runs a lent list of coded requests, calls and SACKs, on the code's own functions, from a fresh sender in lent cells, and writes every
 // answer on a tape. What comes of it is what the model says of that list; so what holds of the model over any requests holds of the code,
 // demand 3 first of all.
+#![tactic(auto)]
+
 ghost use Rattle.std.specs.Prelude.{◌≡◌, List, ◌++◌, ℕ, ◌+◌, ◌≤◌, min, length, leb};
 ghost use Rattle.std.proofs.lemmas.List.Edits.{sets};
 ghost use Rattle.model.specs.State.{fresh};

@@ -1,6 +1,8 @@
 // A script's line, read byte by byte. What has been read is a small record by value, so a line of any length needs no room: `feed` takes a
 // byte of it, and `finish` says which call it is. The law of specs/Claims says that feeding all the bytes of a line and finishing gives
 // `line_means` of those bytes.
+#![tactic(auto)]
+
 pub mod arguments;
 pub mod commands;
 pub mod table;

@@ -1,6 +1,8 @@
 // 01's sender by value: its numbers and its cells go in and come back beside the answer. Here are the sender, a new one, and the calls on
 // streams; `messages`, `flight`, `questions` and `stream_questions` have the rest. Each call lends its own cells to the function on head and cells that holds the
 // logic, and equals 01's call of every sender; a refusal gives back the sender that went in, word for word.
+#![tactic(auto)]
+
 pub mod flight;
 pub mod messages;
 pub mod questions;

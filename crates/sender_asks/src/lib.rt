@@ -1,6 +1,8 @@
 // What is asked of the sender over a head by value and the lent cells: of what is pending, of the flight, of one stream (refusal: 3). Nothing
 // changes. Each answer is the model's (`answer` of model/specs/Calls), of every head and every cells; the two of bytes are the kept counters, and
 // the model's where these are sums (`Counted`). `beside` has the questions that 01 lacks, `chunks` those whose answer is a chunk in lent bytes.
+#![tactic(auto)]
+
 pub mod beside;
 pub mod chunks;
 

@@ -1,6 +1,8 @@
 // The sender's calls on lifetimes, sending, expiry and abandonment: each lends the queue's half of the cells to the crate below, and the table
 // of streams stays but for the next SSN behind an ordered message that expires whole. Each promises by `Does` what it does in states that no
 // call makes, and 01's call in every `Good` state; a refusal leaves the head and every word.
+#![tactic(auto)]
+
 pub mod flight;
 
 ghost use Rattle.model.specs.Rings.{start_lifetimes, send, expire_pending_tail, abandon, expire_pending};

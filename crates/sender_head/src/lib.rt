@@ -1,6 +1,8 @@
 // The sender's head: numbers, by value. All its slots stand in one lent slice: the table of streams in the first 512 words, then the two
 // rings and the flight of its queue. `sender_of` of specs/ reads the model's sender from the two, for every head and every cells; with too
 // few words there is room for fewer streams, or for no chunk.
+#![tactic(auto)]
+
 pub mod table;
 
 ghost use Rattle.std.specs.Prelude.{◌≡◌, List, ℕ, ◌≤◌, length};

@@ -1,6 +1,8 @@
 // The calls that concern the streams alone, over a head by value and the lent cells. Each finds its stream in the table, changes it by value
 // and puts it back; the queue's cells are never lent. The contracts are 01's, for every head and every cells;
 // a refusal leaves the head and every word.
+#![tactic(auto)]
+
 ghost use Rattle.model.specs.State.{with_streams};
 ghost use Rattle.model.specs.Streams.{find, open_stream, set_reliability, set_low, set_high, release};
 ghost use Rattle.model.specs.Rings.{drop_ssn};

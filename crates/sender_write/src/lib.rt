@@ -1,5 +1,7 @@
 // A message is written: refusals 3, 6, 1, 7, 8, 9 of 01 in that order, and then its fragments join their ring and its stream counts it. A refusal
 // leaves the head and every word.
+#![tactic(auto)]
+
 ghost use Rattle.model.specs.Messages.{message_of, write};
 ghost use Rattle.model.specs.Told.{told_done, told_written};
 ghost use Rattle.outbound_send.specs.Pushes.{pushing};

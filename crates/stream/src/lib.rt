@@ -1,5 +1,7 @@
 // One stream by value: its settings, and what the fragments of a message share. What a write, a release and an expiry do to it stands in
 // `amounts`, the table of streams in `stream_table`. A message is cut by the caller, who has the ring.
+#![tactic(auto)]
+
 pub mod amounts;
 
 ghost use Rattle.std.specs.Prelude.{◌≡◌};

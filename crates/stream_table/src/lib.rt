@@ -1,5 +1,7 @@
 // The open streams, in the order of opening: one to each of the first `count` slots of lent cells (all of them, where that is more). What
 // the slots hold is the list `table_of`, for every count and every words, so no call asks anything of its caller.
+#![tactic(auto)]
+
 pub mod slot;
 
 ghost use Rattle.std.specs.Prelude.{◌≡◌, false, length, set, ltb};

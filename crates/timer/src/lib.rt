@@ -1,6 +1,8 @@
 // The six timers of an association: deadlines, counts of expiries, and the back-off between them. Times are milliseconds.
 // A table goes in by value and comes back; the contracts hold for every table, made by these calls or not. What holds over any calls
 // stands in specs/Claims.antt.
+#![tactic(auto)]
+
 ghost use Rattle.std.specs.Prelude.{◌≡◌, ◌≤◌};
 ghost use Rattle.timer.specs.Entries.{place, timer_at, idle_entry, fails_at};
 ghost use Rattle.limits.specs.Limits.{setting_max};

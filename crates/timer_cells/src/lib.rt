@@ -1,6 +1,8 @@
 // The six timers in 18 words that the caller lends, three to a timer: the deadline, the maximum, and the marks, which are the count below 2^32 and a
 // byte each for whether there is a deadline, a maximum, a suppression. So the words are, byte for byte, the timers of include/girdermoth.h. A call
 // reads and writes the words of the timer that it names. Every words mean a table (`table_of` of specs/), and a refusal leaves every word.
+#![tactic(auto)]
+
 ghost use Rattle.std.specs.Prelude.{◌≡◌, true, false, cond, ◌+◌, ◌*◌, ◌≤◌, ◌<◌, eqb, length, set};
 ghost use Rattle.limits.specs.Limits.{setting_max};
 ghost use Rattle.timer.specs.Entries.{idle_entry};

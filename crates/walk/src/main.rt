@@ -1,5 +1,7 @@
 // 01's walk: a message is cut off halfway, and its terminator takes the TSN 0. It writes a line for each TSN as it is assigned; any answer
 // that the paper does not expect is a line more, so that the file stdout no longer holds.
+#![tactic(auto)]
+
 mod show;
 
 use model::{Abandoned, Chunk, Done, Found, Sent, Written};

@@ -1,5 +1,7 @@
 // A word of a script, read byte by byte: a name, a number or a dash. `token_of` of specs/ says what a whole word is, and its law that
 // beginning with the first byte and growing by the others gives just that.
+#![tactic(auto)]
+
 ghost use Rattle.std.specs.Prelude.{◌≡◌};
 ghost use Rattle.words.specs.Tokens.{begin_of, grow_of, lettered_of, appended_of, held_as, code_of};
 
