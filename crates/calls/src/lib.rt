@@ -15,7 +15,7 @@ use model::{
 use sender_head::Head;
 
 // What changes nothing.
-#[derive(Drop)]
+#[derive(Clone, Copy)]
 pub enum Query {
     Get { tsn: u32 },
     IsAbandoned { tsn: u32 },
@@ -35,7 +35,7 @@ pub enum Query {
     Statistics { identifier: u16 },
 }
 
-#[derive(Drop)]
+#[derive(Clone, Copy)]
 pub enum Call {
     Open {
         identifier: u16,
@@ -91,7 +91,7 @@ pub enum Call {
 }
 
 // What a call answers.
-#[derive(Drop)]
+#[derive(Clone, Copy)]
 pub enum Answer {
     ToDo(Done),
     ToWrite(Written),
@@ -108,7 +108,7 @@ pub enum Answer {
     YesNo(bool),
 }
 
-#[derive(Drop)]
+#[derive(Clone, Copy)]
 pub struct Stepped {
     pub head: Head,
     pub answer: Answer,

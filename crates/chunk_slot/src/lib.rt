@@ -17,7 +17,7 @@ use marks::{ABANDONED, ACKED, BEGINNING, ENDING, KIND, RETRANSMIT, SENT, SSN, TI
 use model::{Chunk, Message, Reliability};
 
 // The words of a slot that a chunk has.
-#[derive(Drop)]
+#[derive(Clone, Copy)]
 pub struct Words {
     pub number: u64,
     pub deadline: u64,
@@ -29,7 +29,7 @@ pub struct Words {
 }
 
 // Where there may be none.
-#[derive(Drop)]
+#[derive(Clone, Copy)]
 pub enum FoundWords {
     One(Words),
     Nothing,

@@ -6,7 +6,7 @@ use rto::{Made, Measured, RtoManager, Set};
 use timer::{Answer, Changed, Entry, Expiry, Maximum, Timer, TimerTable};
 
 // The calls of the timers; `SetCount` is the script's own.
-#[derive(Drop)]
+#[derive(Clone, Copy)]
 pub enum TimerCall {
     Make {
         init: Maximum,
@@ -51,7 +51,7 @@ pub enum TimerCall {
 }
 
 // The calls of the estimator.
-#[derive(Drop)]
+#[derive(Clone, Copy)]
 pub enum RtoCall {
     Make { initial: u64, least: u64, most: u64 },
     Measure { rtt: u64 },
@@ -61,13 +61,13 @@ pub enum RtoCall {
 }
 
 // The timers after a call, and the place behind its answer.
-#[derive(Drop)]
+#[derive(Clone, Copy)]
 pub struct Timers {
     pub table: TimerTable,
     pub at: usize,
 }
 
-#[derive(Drop)]
+#[derive(Clone, Copy)]
 pub struct Estimator {
     pub manager: RtoManager,
     pub at: usize,

@@ -11,7 +11,7 @@ ghost use Rattle.coded_calls.specs.Coded.{amount_of, question, change, plain_of,
 use calls::{Call, Query};
 
 // The list of expired TSNs needs a list that is lent with it, and a SACK its bytes, so they are apart.
-#[derive(Drop)]
+#[derive(Clone, Copy)]
 pub enum Coded {
     Plain(Call),
     Expired { clock: u64, room: usize },

@@ -7,7 +7,7 @@ use sender_head::Head;
 
 // A number, or a yes or no.
 #[repr(C)]
-#[derive(Drop)]
+#[derive(Clone, Copy)]
 pub struct Reply {
     pub value: u64,
     pub refusal: u8,
@@ -16,7 +16,7 @@ pub struct Reply {
 
 // What an expiry or an abandonment freed, where `some` is set.
 #[repr(C)]
-#[derive(Drop)]
+#[derive(Clone, Copy)]
 pub struct Freed {
     pub message_id: u64,
     pub bytes: u64,
@@ -28,7 +28,7 @@ pub struct Freed {
 
 // A chunk, where `some` is set.
 #[repr(C)]
-#[derive(Drop)]
+#[derive(Clone, Copy)]
 pub struct Fragment {
     pub message_id: u64,
     pub offset: u64,
@@ -56,7 +56,7 @@ pub struct Fragment {
 
 // A stream's statistics.
 #[repr(C)]
-#[derive(Drop)]
+#[derive(Clone, Copy)]
 pub struct Counts {
     pub messages: u64,
     pub bytes: u64,
@@ -66,7 +66,7 @@ pub struct Counts {
 // What a SACK released, or that it is stale.
 // `low` is 0: its place is kept for how many streams fall to their low threshold, so that the struct stays when these are counted.
 #[repr(C)]
-#[derive(Drop)]
+#[derive(Clone, Copy)]
 pub struct Sacked {
     pub bytes: u64,
     pub low: u64,
@@ -75,25 +75,25 @@ pub struct Sacked {
 }
 
 // The head after a call beside its reply.
-#[derive(Drop)]
+#[derive(Clone, Copy)]
 pub struct Said {
     pub head: Head,
     pub reply: Reply,
 }
 
-#[derive(Drop)]
+#[derive(Clone, Copy)]
 pub struct SaidFreed {
     pub head: Head,
     pub reply: Freed,
 }
 
-#[derive(Drop)]
+#[derive(Clone, Copy)]
 pub struct SaidFragment {
     pub head: Head,
     pub reply: Fragment,
 }
 
-#[derive(Drop)]
+#[derive(Clone, Copy)]
 pub struct SaidSacked {
     pub head: Head,
     pub reply: Sacked,

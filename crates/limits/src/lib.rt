@@ -55,7 +55,7 @@ pub const PAYLOAD_OUTSIDE: u8 = 16;
 pub const OUTPUT_SHORT: u8 = 17;
 
 // A moment of the clock, in milliseconds, that may be missing: a deadline, or the time of a send.
-#[derive(Drop)]
+#[derive(Clone, Copy)]
 pub enum Moment {
     Absent,
     At(u64),

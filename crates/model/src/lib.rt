@@ -4,14 +4,14 @@
 use limits::Moment;
 
 // How a message is kept alive: kind 1 is Rexmit, 2 is Timed, any other Reliable; the value is a count or a lifetime.
-#[derive(Drop)]
+#[derive(Clone, Copy)]
 pub struct Reliability {
     pub kind: u8,
     pub value: u32,
 }
 
 // What the fragments of a message share. `protocol` is 01's payload type.
-#[derive(Drop)]
+#[derive(Clone, Copy)]
 pub struct Message {
     pub stream: u16,
     pub ssn: u16,
@@ -23,7 +23,7 @@ pub struct Message {
 }
 
 // A fragment, pending or in flight. `length` counts the bytes that it still holds; its TSN is its place in the flight.
-#[derive(Drop)]
+#[derive(Clone, Copy)]
 pub struct Chunk {
     pub message: Message,
     pub beginning: bool,
@@ -38,14 +38,14 @@ pub struct Chunk {
 }
 
 // Messages and bytes sent, as WebRTC's statistics count them.
-#[derive(Drop)]
+#[derive(Clone, Copy)]
 pub struct Statistics {
     pub messages: u64,
     pub bytes: u64,
 }
 
 // An open stream. `maximum` bounds a chunk's payload, `ssn` is the next message's, `low` and `high` are the thresholds.
-#[derive(Drop)]
+#[derive(Clone, Copy)]
 pub struct Stream {
     pub identifier: u16,
     pub maximum: u16,
@@ -59,42 +59,42 @@ pub struct Stream {
 }
 
 // The two rings of pending chunks.
-#[derive(Drop)]
+#[derive(Clone, Copy)]
 pub enum Lane {
     Unordered,
     Ordered,
 }
 
 // Whether a message has been sent in part: then its rest stands in front of this ring.
-#[derive(Drop)]
+#[derive(Clone, Copy)]
 pub enum UnderWay {
     Idle,
     Sending(Lane),
 }
 
 // Opening a stream, setting its reliability or a threshold, starting lifetimes, marking all.
-#[derive(Drop)]
+#[derive(Clone, Copy)]
 pub enum Done {
     Done,
     Refused(u8),
 }
 
 // Writing a message: whether the buffered amount reached the high threshold.
-#[derive(Drop)]
+#[derive(Clone, Copy)]
 pub enum Written {
     Accepted(bool),
     Refused(u8),
 }
 
 // Releasing buffered bytes: whether the amount fell to the low threshold.
-#[derive(Drop)]
+#[derive(Clone, Copy)]
 pub enum Released {
     Told(bool),
     Refused(u8),
 }
 
 // Sending: the TSN and the chunk.
-#[derive(Drop)]
+#[derive(Clone, Copy)]
 pub enum Sent {
     Yielded(u32, Chunk),
     Nothing,
@@ -102,7 +102,7 @@ pub enum Sent {
 }
 
 // Expiring a message of which nothing was sent.
-#[derive(Drop)]
+#[derive(Clone, Copy)]
 pub enum Expired {
     Message {
         stream: u16,
@@ -114,7 +114,7 @@ pub enum Expired {
 }
 
 // Expiring the rest of the message under way.
-#[derive(Drop)]
+#[derive(Clone, Copy)]
 pub enum TailExpired {
     Message {
         stream: u16,
@@ -126,56 +126,56 @@ pub enum TailExpired {
 }
 
 // Abandoning the message of a TSN.
-#[derive(Drop)]
+#[derive(Clone, Copy)]
 pub enum Abandoned {
     Message { stream: u16, bytes: u64 },
     Nothing,
 }
 
 // The entry of a TSN, the entry that is popped, or the pending head.
-#[derive(Drop)]
+#[derive(Clone, Copy)]
 pub enum Found {
     One(Chunk),
     Nothing,
 }
 
 // How many expired TSNs stand in the lent list.
-#[derive(Drop)]
+#[derive(Clone, Copy)]
 pub enum Listed {
     Count(usize),
     Refused(u8),
 }
 
 // The oldest TSN that is neither acknowledged nor abandoned.
-#[derive(Drop)]
+#[derive(Clone, Copy)]
 pub enum Earliest {
     Tsn(u32),
     Nothing,
 }
 
 // A number kept for a stream: its buffered amount or a threshold.
-#[derive(Drop)]
+#[derive(Clone, Copy)]
 pub enum Amount {
     Is(u64),
     Refused(u8),
 }
 
 // A stream's statistics.
-#[derive(Drop)]
+#[derive(Clone, Copy)]
 pub enum Counted {
     Are(Statistics),
     Refused(u8),
 }
 
 // A gap block of a SACK: it acknowledges the TSNs from `start` to `end` behind the cumulative one.
-#[derive(Drop)]
+#[derive(Clone, Copy)]
 pub struct Block {
     pub start: u16,
     pub end: u16,
 }
 
 // Reading a SACK: the bytes that were released.
-#[derive(Drop)]
+#[derive(Clone, Copy)]
 pub enum Sacked {
     Released(u64),
     Stale,
@@ -183,14 +183,14 @@ pub enum Sacked {
 }
 
 // Writing a chunk: how many bytes it takes in the lent output, padding included.
-#[derive(Drop)]
+#[derive(Clone, Copy)]
 pub enum Laid {
     Bytes(usize),
     Refused(u8),
 }
 
 // What the bytes of a DATA chunk say; `length` counts the payload, which stands behind the 16 bytes of the header.
-#[derive(Drop)]
+#[derive(Clone, Copy)]
 pub enum Data {
     Chunk {
         tsn: u32,

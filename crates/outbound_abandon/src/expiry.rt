@@ -10,13 +10,13 @@ ghost use Rattle.outbound_queue.specs.Calls.{LeansInOrStays};
 use model::{Chunk, Expired, Found, TailExpired};
 use outbound_queue::OutboundQueue;
 
-#[derive(Drop)]
+#[derive(Clone, Copy)]
 pub struct Expiring {
     pub queue: OutboundQueue,
     pub answer: Expired,
 }
 
-#[derive(Drop)]
+#[derive(Clone, Copy)]
 pub struct TailExpiring {
     pub queue: OutboundQueue,
     pub answer: TailExpired,

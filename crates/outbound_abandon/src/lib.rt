@@ -15,7 +15,7 @@ use limits::Moment;
 use model::{Abandoned, Chunk, Found};
 use outbound_queue::OutboundQueue;
 
-#[derive(Drop)]
+#[derive(Clone, Copy)]
 pub struct Abandoning {
     pub queue: OutboundQueue,
     pub answer: Abandoned,
@@ -40,7 +40,7 @@ fn terminate(chunk: Chunk) -> Chunk
     }
 }
 
-#[derive(Drop)]
+#[derive(Clone, Copy)]
 pub struct GivenUp {
     pub queue: OutboundQueue,
     pub bytes: u64,

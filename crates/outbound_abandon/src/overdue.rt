@@ -10,7 +10,7 @@ use outbound_queue::OutboundQueue;
 use payload_queue::Pending;
 
 // The queue, whose bound of the deadlines may be another, and the answer.
-#[derive(Drop)]
+#[derive(Clone, Copy)]
 pub struct Overdue {
     pub queue: OutboundQueue,
     pub answer: Listed,

@@ -8,7 +8,7 @@ use super::OutboundQueue;
 use chunk_slot::Words;
 
 // The bytes that the message held in flight.
-#[derive(Drop)]
+#[derive(Clone, Copy)]
 pub struct Freed {
     pub queue: OutboundQueue,
     pub bytes: u64,

@@ -20,7 +20,7 @@ use payload_queue::PayloadQueue;
 use pending_queue::PendingQueue;
 
 #[repr(C)]
-#[derive(Drop)]
+#[derive(Clone, Copy)]
 pub struct OutboundQueue {
     pub pending: PendingQueue,
     pub inflight: PayloadQueue,
@@ -28,14 +28,14 @@ pub struct OutboundQueue {
     pub next_unstarted_message_id: u64,
 }
 
-#[derive(Drop)]
+#[derive(Clone, Copy)]
 pub struct Popped {
     pub queue: OutboundQueue,
     pub front: Found,
 }
 
 // The bytes that the entry held.
-#[derive(Drop)]
+#[derive(Clone, Copy)]
 pub struct Acked {
     pub queue: OutboundQueue,
     pub bytes: u32,

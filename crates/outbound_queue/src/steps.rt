@@ -11,14 +11,14 @@ use super::OutboundQueue;
 use chunk_slot::FoundWords;
 use model::{Found, Message};
 
-#[derive(Drop)]
+#[derive(Clone, Copy)]
 pub struct Taken {
     pub queue: OutboundQueue,
     pub front: FoundWords,
 }
 
 // `bytes` is what the removed chunks held, and `last` the last of them.
-#[derive(Drop)]
+#[derive(Clone, Copy)]
 pub struct Removed {
     pub queue: OutboundQueue,
     pub bytes: u64,
@@ -26,7 +26,7 @@ pub struct Removed {
 }
 
 // Whether there was room for the fragments.
-#[derive(Drop)]
+#[derive(Clone, Copy)]
 pub struct Joined {
     pub queue: OutboundQueue,
     pub done: bool,

@@ -50,7 +50,7 @@ fn note_ends(part: &[u8], count: u16, from: usize, ends: &mut [u16])
 // ---- the entries
 
 // The furthest end so far, and the bytes that were held.
-#[derive(Drop)]
+#[derive(Clone, Copy)]
 struct Walked {
     top: u16,
     bytes: u64,

@@ -20,13 +20,13 @@ use payload_queue::PayloadQueue;
 use payload_queue::marks::Freed;
 use wire::sack::{FIXED, Layout};
 
-#[derive(Drop)]
+#[derive(Clone, Copy)]
 pub struct Sacking {
     pub queue: OutboundQueue,
     pub answer: Sacked,
 }
 
-#[derive(Drop)]
+#[derive(Clone, Copy)]
 struct Reading {
     queue: PayloadQueue,
     answer: Sacked,

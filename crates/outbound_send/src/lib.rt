@@ -17,13 +17,13 @@ use chunk_slot::FoundWords;
 use model::{Done, Found, Sent};
 use outbound_queue::OutboundQueue;
 
-#[derive(Drop)]
+#[derive(Clone, Copy)]
 pub struct Started {
     pub queue: OutboundQueue,
     pub answer: Done,
 }
 
-#[derive(Drop)]
+#[derive(Clone, Copy)]
 pub struct Sending {
     pub queue: OutboundQueue,
     pub answer: Sent,

@@ -10,7 +10,7 @@ ghost use Rattle.outbound_queue.specs.Calls.{waiting_in, GoesOrStays};
 use model::{Done, Message};
 use outbound_queue::OutboundQueue;
 
-#[derive(Drop)]
+#[derive(Clone, Copy)]
 pub struct Pushed {
     pub queue: OutboundQueue,
     pub answer: Done,

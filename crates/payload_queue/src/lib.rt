@@ -24,7 +24,7 @@ use ring::Ring;
 pub const NEVER: u64 = 18_446_744_073_709_551_615;
 
 #[repr(C)]
-#[derive(Drop)]
+#[derive(Clone, Copy)]
 pub struct PayloadQueue {
     pub ring: Ring,
     pub oldest: u32,
@@ -32,14 +32,14 @@ pub struct PayloadQueue {
     pub due: u64,
 }
 
-#[derive(Drop)]
+#[derive(Clone, Copy)]
 pub struct Popped {
     pub queue: PayloadQueue,
     pub front: Found,
 }
 
 // The one message that can be both in flight and pending: the message under way.
-#[derive(Drop)]
+#[derive(Clone, Copy)]
 pub enum Pending {
     Nothing,
     Message(u64),

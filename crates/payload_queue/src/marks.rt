@@ -11,14 +11,14 @@ use super::PayloadQueue;
 use ring::Ring;
 
 // The bytes that the entry held.
-#[derive(Drop)]
+#[derive(Clone, Copy)]
 pub struct Acked {
     pub queue: PayloadQueue,
     pub bytes: u32,
 }
 
 // The bytes that the message held in flight.
-#[derive(Drop)]
+#[derive(Clone, Copy)]
 pub struct Freed {
     pub queue: PayloadQueue,
     pub bytes: u64,

@@ -12,7 +12,7 @@ use model::{Chunk, Listed};
 use ring::Ring;
 
 // The queue, whose bound may be another, and the answer.
-#[derive(Drop)]
+#[derive(Clone, Copy)]
 pub struct Overdue {
     pub queue: PayloadQueue,
     pub answer: Listed,

@@ -10,7 +10,7 @@ use model::{Chunk, Message};
 use ring::Ring;
 
 // The ring with a message's fragments, the bytes that they bring, and whether there was room.
-#[derive(Drop)]
+#[derive(Clone, Copy)]
 pub struct Added {
     pub ring: Ring,
     pub bytes: u64,

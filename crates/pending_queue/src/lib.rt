@@ -27,7 +27,7 @@ use ring::Ring;
 
 // `selected` says that a message has been sent in part, and `unordered_is_selected` in which ring its rest is: any byte but 0 is yes.
 #[repr(C)]
-#[derive(Drop)]
+#[derive(Clone, Copy)]
 pub struct PendingQueue {
     pub unordered: Ring,
     pub ordered: Ring,
@@ -36,7 +36,7 @@ pub struct PendingQueue {
     pub unordered_is_selected: u8,
 }
 
-#[derive(Drop)]
+#[derive(Clone, Copy)]
 pub struct Popped {
     pub queue: PendingQueue,
     pub front: FoundWords,
@@ -89,7 +89,7 @@ fn flag(b: bool) -> u8
 }
 
 // What is kept behind a chunk: the bytes without its own, and whether its message is under way.
-#[derive(Drop)]
+#[derive(Clone, Copy)]
 struct Kept {
     bytes: u64,
     selected: u8,

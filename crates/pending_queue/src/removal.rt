@@ -10,14 +10,14 @@ use model::Found;
 use ring::Ring;
 
 // `bytes` is what the removed chunks held, and `last` the last of them.
-#[derive(Drop)]
+#[derive(Clone, Copy)]
 pub struct Removed {
     pub queue: PendingQueue,
     pub bytes: u64,
     pub last: Found,
 }
 
-#[derive(Drop)]
+#[derive(Clone, Copy)]
 struct Run {
     ring: Ring,
     bytes: u64,

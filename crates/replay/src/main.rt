@@ -12,7 +12,7 @@ use timer::{Maximum, TimerTable};
 
 // All that a script's lines change, but the cells, the wire and the memory; `lent` bytes of the memory are lent, and `at` is the place behind the
 // answers so far.
-#[derive(Drop)]
+#[derive(Clone, Copy)]
 struct World {
     head: Head,
     table: TimerTable,
@@ -64,7 +64,7 @@ fn state(
 // ---- a line
 
 // The sender after a call, and the place behind its answer.
-#[derive(Drop)]
+#[derive(Clone, Copy)]
 struct Sender {
     head: Head,
     at: usize,
@@ -254,7 +254,7 @@ fn run(
 
 // ---- the input
 
-#[derive(Drop)]
+#[derive(Clone, Copy)]
 struct Reading {
     world: World,
     line: Line,
@@ -319,7 +319,7 @@ fn fresh_estimator() -> RtoManager {
 }
 
 // What a block of the input left, and whether it was the last.
-#[derive(Drop)]
+#[derive(Clone, Copy)]
 struct Turn {
     reading: Reading,
     ended: bool,

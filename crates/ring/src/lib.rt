@@ -19,13 +19,13 @@ use chunk_slot::{FoundWords, Words};
 use model::{Chunk, Found};
 
 #[repr(C)]
-#[derive(Drop)]
+#[derive(Clone, Copy)]
 pub struct Ring {
     pub start: usize,
     pub len: usize,
 }
 
-#[derive(Drop)]
+#[derive(Clone, Copy)]
 pub struct Pushed {
     pub ring: Ring,
     pub done: bool,

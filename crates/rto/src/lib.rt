@@ -10,7 +10,7 @@ ghost use Rattle.limits.specs.Limits.{setting_max};
 ghost use Rattle.rto.specs.Rto.{f64, gap, first_var, next_var, next_srtt, four_times, clamp, settled, new_of, measured_of, get_of, reset_of, set_of};
 
 // srtt 0 means that the next measurement counts as the first.
-#[derive(Drop)]
+#[derive(Clone, Copy)]
 pub struct RtoManager {
     pub srtt: u64,
     pub rttvar: f64,
@@ -22,21 +22,21 @@ pub struct RtoManager {
 }
 
 // A manager, or a refusal's number.
-#[derive(Drop)]
+#[derive(Clone, Copy)]
 pub enum Made {
     Ready(RtoManager),
     Refused(u8),
 }
 
 // The srtt and the manager after the measurement, or a refusal's number.
-#[derive(Drop)]
+#[derive(Clone, Copy)]
 pub enum Measured {
     Srtt(u64, RtoManager),
     Refused(u8),
 }
 
 // The manager with the RTO that was given, or a refusal's number.
-#[derive(Drop)]
+#[derive(Clone, Copy)]
 pub enum Set {
     Kept(RtoManager),
     Refused(u8),

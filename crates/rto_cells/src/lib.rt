@@ -19,7 +19,7 @@ pub const WORDS: usize = 4;
 
 // What measurements change. The RTO does not stand beside the srtt, so that the two are not stored as one pair, which the next measurement would wait for.
 #[repr(C)]
-#[derive(Drop)]
+#[derive(Clone, Copy)]
 pub struct Head {
     pub srtt: u64,
     pub rttvar: f64,
@@ -28,7 +28,7 @@ pub struct Head {
 
 // The smoothed time, where `yes` is set.
 #[repr(C)]
-#[derive(Drop)]
+#[derive(Clone, Copy)]
 pub struct Smoothed {
     pub value: u64,
     pub refusal: u8,
@@ -36,13 +36,13 @@ pub struct Smoothed {
 }
 
 // The reply to a call that only changes the estimator is a refusal's number, or 0.
-#[derive(Drop)]
+#[derive(Clone, Copy)]
 pub struct Said {
     pub head: Head,
     pub reply: u8,
 }
 
-#[derive(Drop)]
+#[derive(Clone, Copy)]
 pub struct SaidSmoothed {
     pub head: Head,
     pub reply: Smoothed,

@@ -22,7 +22,7 @@ use model::Listed;
 use sender_head::Head;
 
 // The head behind a request, and the place behind its answer.
-#[derive(Drop)]
+#[derive(Clone, Copy)]
 struct Ran {
     head: Head,
     at: usize,

@@ -7,11 +7,11 @@ use super::table::{FLAG, NONE, OPTIONAL, PARTS, Row, SIGNED};
 use words::Token;
 
 // Whether the word is an argument of its kind; its value; a mark, 1 where a number is below zero or where there is none.
-#[derive(Drop)]
+#[derive(Clone, Copy)]
 pub struct Argument(pub bool, pub u64, pub u64);
 
 // Whether every argument is one of its kind; the words of a call behind its row.
-#[derive(Drop)]
+#[derive(Clone, Copy)]
 pub struct Words(pub bool, pub u64, pub u64, pub u64, pub u64, pub u64);
 
 const NO: Argument = Argument(false, 0, 0);

@@ -13,7 +13,7 @@ use words::Token;
 // What a line is; `SetBuffered` is the script's own. `Blank` has no word and gets no answer; `Bad` is no call. `List` asks for the expired TSNs; `ListWithin` names the room of that list.
 // `Wipe`, `Put` and `Look` are of the wire, an array of bytes of the script; `Sack` reads one from its front. `Fill` and `Read` are of the memory,
 // another; `Lend` says how much of it is lent, and `Data` writes to the wire's front a chunk whose payload is there.
-#[derive(Drop)]
+#[derive(Clone, Copy)]
 pub enum Command {
     Blank,
     Bad,

@@ -15,7 +15,7 @@ use words::Token;
 
 // `words` of them are whole, six where there are more; `inside` says that `current` is one more, not ended yet, and `comment` that the rest
 // of the line is none. The first word is the name, the others are its arguments.
-#[derive(Drop)]
+#[derive(Clone, Copy)]
 pub struct Line {
     pub words: u8,
     pub inside: bool,

@@ -4,7 +4,7 @@ ghost use Rattle.std.specs.Prelude.{◌≡◌};
 ghost use Rattle.script.specs.Table.{named, row_of};
 
 // The name, the words of a line with it, the kinds of the arguments, the row.
-#[derive(Drop)]
+#[derive(Clone, Copy)]
 pub struct Row(pub u64, pub u8, pub u64, pub u64, pub u64, pub u64, pub u64);
 
 // ---- the kinds of arguments: up to `PARTS` an argument is one word of a call, and two from `SIGNED` on

@@ -12,26 +12,26 @@ use model::{Found, Listed, Sacked};
 use sender_head::Head;
 
 // The bytes that the entry held.
-#[derive(Drop)]
+#[derive(Clone, Copy)]
 pub struct Acked {
     pub head: Head,
     pub bytes: u32,
 }
 
-#[derive(Drop)]
+#[derive(Clone, Copy)]
 pub struct Popped {
     pub head: Head,
     pub front: Found,
 }
 
-#[derive(Drop)]
+#[derive(Clone, Copy)]
 pub struct Sacking {
     pub head: Head,
     pub answer: Sacked,
 }
 
 // The head, whose bound of the deadlines may be another, and the answer.
-#[derive(Drop)]
+#[derive(Clone, Copy)]
 pub struct Overdue {
     pub head: Head,
     pub answer: Listed,

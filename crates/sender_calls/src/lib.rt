@@ -17,25 +17,25 @@ ghost use Rattle.sender_calls.specs.Behind.{LowersBehind};
 use model::{Abandoned, Done, Expired, Sent, TailExpired};
 use sender_head::Head;
 
-#[derive(Drop)]
+#[derive(Clone, Copy)]
 pub struct Started {
     pub head: Head,
     pub answer: Done,
 }
 
-#[derive(Drop)]
+#[derive(Clone, Copy)]
 pub struct Sending {
     pub head: Head,
     pub answer: Sent,
 }
 
-#[derive(Drop)]
+#[derive(Clone, Copy)]
 pub struct TailExpiring {
     pub head: Head,
     pub answer: TailExpired,
 }
 
-#[derive(Drop)]
+#[derive(Clone, Copy)]
 pub struct Abandoning {
     pub head: Head,
     pub answer: Abandoned,
@@ -113,7 +113,7 @@ pub fn abandon(h: Head, cells: &mut [u64], tsn: u32) -> Abandoning
     }
 }
 
-#[derive(Drop)]
+#[derive(Clone, Copy)]
 pub struct Expiring {
     pub head: Head,
     pub answer: Expired,

@@ -16,7 +16,7 @@ use ring::Ring;
 
 // `streams` is how many are open.
 #[repr(C)]
-#[derive(Drop)]
+#[derive(Clone, Copy)]
 pub struct Head {
     pub queue: OutboundQueue,
     pub streams: usize,

@@ -10,7 +10,7 @@ use model::Stream;
 use stream_table::Place;
 
 // Whether there was room.
-#[derive(Drop)]
+#[derive(Clone, Copy)]
 pub struct Joined {
     pub head: Head,
     pub done: bool,

@@ -15,7 +15,7 @@ use model::{Done, Released};
 use sender_head::Head;
 use stream_table::Place;
 
-#[derive(Drop)]
+#[derive(Clone, Copy)]
 pub struct Opening {
     pub head: Head,
     pub answer: Done,

@@ -12,13 +12,13 @@ use model::{Done, Stream, Written};
 use sender_head::Head;
 use stream_table::Place;
 
-#[derive(Drop)]
+#[derive(Clone, Copy)]
 pub struct Writing {
     pub head: Head,
     pub answer: Written,
 }
 
-#[derive(Drop)]
+#[derive(Clone, Copy)]
 struct Queued {
     head: Head,
     answer: Done,

@@ -22,14 +22,14 @@ const BINARY_EMPTY: u32 = 57;
 const SSN_MAX: u16 = 65_535;
 
 // The stream behind a write, and whether its amount reached the high threshold.
-#[derive(Drop)]
+#[derive(Clone, Copy)]
 pub struct Accepted {
     pub stream: Stream,
     pub high: bool,
 }
 
 // The stream behind a release, and whether its amount fell to the low threshold.
-#[derive(Drop)]
+#[derive(Clone, Copy)]
 pub struct Freed {
     pub stream: Stream,
     pub low: bool,

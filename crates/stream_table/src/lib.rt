@@ -13,14 +13,14 @@ ghost use Rattle.stream_table.specs.Tables.{table_of, sought};
 use model::Stream;
 
 // Where a stream stands, and the stream.
-#[derive(Drop)]
+#[derive(Clone, Copy)]
 pub enum Place {
     At(usize, Stream),
     Nothing,
 }
 
 // The count behind an opening, and whether there was room.
-#[derive(Drop)]
+#[derive(Clone, Copy)]
 pub struct Opened {
     pub count: usize,
     pub done: bool,

@@ -13,7 +13,7 @@ use limits::Moment;
 
 pub const TIMER_COUNT: usize = 6;
 
-#[derive(Drop)]
+#[derive(Clone, Copy)]
 pub enum Timer {
     T1Init,
     T1Cookie,
@@ -24,21 +24,21 @@ pub enum Timer {
 }
 
 // What stands at a place of `Timer::VALUES`.
-#[derive(Drop)]
+#[derive(Clone, Copy)]
 pub enum Found {
     Value(Timer),
     Nothing,
 }
 
 // How many expiries a timer may count before one is a failure.
-#[derive(Drop)]
+#[derive(Clone, Copy)]
 pub enum Maximum {
     Unlimited,
     Of(u64),
 }
 
 // One timer. `suppressed` exempts the next expiry from the count.
-#[derive(Drop)]
+#[derive(Clone, Copy)]
 pub struct Entry {
     pub deadline: Moment,
     pub retrans: u32,
@@ -108,27 +108,27 @@ impl Entry {
 }
 
 // `rto_max` has 32 bits, so that a deadline fits for every table at all.
-#[derive(Drop)]
+#[derive(Clone, Copy)]
 pub struct TimerTable {
     pub entries: [Entry; TIMER_COUNT],
     pub rto_max: u32,
 }
 
 // What the caller hears: a refusal has its number.
-#[derive(Drop)]
+#[derive(Clone, Copy)]
 pub enum Answer {
     Done,
     Refused(u8),
 }
 
 // An answer, and the table after the call: the one that went in where the call is refused.
-#[derive(Drop)]
+#[derive(Clone, Copy)]
 pub struct Changed {
     pub answer: Answer,
     pub table: TimerTable,
 }
 
-#[derive(Drop)]
+#[derive(Clone, Copy)]
 pub enum Expiry {
     Told {
         expired: bool,
@@ -139,7 +139,7 @@ pub enum Expiry {
 }
 
 // The same for an expiry.
-#[derive(Drop)]
+#[derive(Clone, Copy)]
 pub struct Checked {
     pub answer: Expiry,
     pub table: TimerTable,

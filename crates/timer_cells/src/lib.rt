@@ -26,14 +26,14 @@ const SUPPRESSION: u64 = 281_474_976_710_656;
 
 // What is kept beside the words.
 #[repr(C)]
-#[derive(Drop)]
+#[derive(Clone, Copy)]
 pub struct Head {
     pub rto_max: u32,
 }
 
 // A time, where `yes` is set.
 #[repr(C)]
-#[derive(Drop)]
+#[derive(Clone, Copy)]
 pub struct Due {
     pub value: u64,
     pub refusal: u8,
@@ -42,7 +42,7 @@ pub struct Due {
 
 // What an expiry tells.
 #[repr(C)]
-#[derive(Drop)]
+#[derive(Clone, Copy)]
 pub struct Expired {
     pub count: u32,
     pub refusal: u8,
@@ -51,20 +51,20 @@ pub struct Expired {
 }
 
 // The reply to a call that changes the timers is a refusal's number, or 0.
-#[derive(Drop)]
+#[derive(Clone, Copy)]
 pub struct Said {
     pub head: Head,
     pub reply: u8,
 }
 
-#[derive(Drop)]
+#[derive(Clone, Copy)]
 pub struct SaidExpired {
     pub head: Head,
     pub reply: Expired,
 }
 
 // The marks after an expiry, and what it tells.
-#[derive(Drop)]
+#[derive(Clone, Copy)]
 struct Step {
     marks: u64,
     reply: Expired,

@@ -12,7 +12,7 @@ const SACK: u8 = 3;
 pub const FIXED: usize = 16;
 
 // What the bytes are.
-#[derive(Drop)]
+#[derive(Clone, Copy)]
 pub enum Layout {
     Sack { cumulative: u32, blocks: u16 },
     Other,

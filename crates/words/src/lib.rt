@@ -6,7 +6,7 @@ ghost use Rattle.std.specs.Prelude.{◌≡◌};
 ghost use Rattle.words.specs.Tokens.{begin_of, grow_of, lettered_of, appended_of, held_as, code_of};
 
 // A name has lower-case letters alone, at most ten, and is held as two octal digits a letter; a number fits 64 bits.
-#[derive(Drop)]
+#[derive(Clone, Copy)]
 pub enum Token {
     Name(u64),
     Number(u64),
@@ -16,7 +16,7 @@ pub enum Token {
 }
 
 // A number with one digit more, if that is a digit and fits.
-#[derive(Drop)]
+#[derive(Clone, Copy)]
 enum Appended {
     Is(u64),
     Not,
