@@ -3,7 +3,7 @@ use Prim.Native.Nat.{ℕ, zero, suc, ◌+◌, ◌≤◌, ◌<◌}
 use native.Mathlib.Nat.{le_refl}
 use native.Mathlib.Omega.{arith}
 use mathlib.Core.Path.{◌≡◌, refl, sym, ap, subst, ◌∙◌}
-use mathlib.Core.Bool.{Bool, true, false, not, ◌&&◌, ◌||◌, true≢false, or_true}
+use mathlib.Core.Bool.{Bool, true, false, not, ◌&&◌, ◌||◌, true≢false, or-true}
 use mathlib.Core.Option.{Option, some}
 use mathlib.Core.List.{List, [], ◌∷◌, ◌++◌, map}
 use lib.ListN.{length}
@@ -193,7 +193,7 @@ module _ (l : List Stream) (n : Numbers) where
   flight_to_retransmit c h =
       flight_marked c.length c.acked c.abandoned (c.retransmit || outstanding c) c
       (λ e. let r = h.acked_empty e in (r.0, rw (r.1, e)))
-      (λ e. let r = h.abandoned_empty e in (r.0, rw (r.1, e, or_true c.acked))) h
+      (λ e. let r = h.abandoned_empty e in (r.0, rw (r.1, e, or-true c.acked))) h
 
   -- a message with a passed deadline was seen
   overdue_seen : (now : ℕ) (k : Lane) (c : Chunk) → overdue now c ≡ true → PendingChunk l n k c → c.message.number < n.unstarted
@@ -219,7 +219,7 @@ pub record Chunked (room : Room) (s : Sender) : Type 0 where
 
 pub chunked_fresh : (room : Room) (t n : ℕ) → Chunked room (fresh t n)
 chunked_fresh room t n =
-    record { pending = λ l. elim l [ Unordered ↦ tt | Ordered ↦ tt ]; flying = tt; unstarted = le_refl n; unseen = λ _. refl; distinct = tt; maxima = tt; stream_room = omega arith }
+    record { pending = λ l. elim l as (λ k. Each (PendingChunk (fresh t n).streams (fresh t n).numbers k) (at k (fresh t n).pending)) [ Unordered ↦ tt | Ordered ↦ tt ]; flying = tt; unstarted = le_refl n; unseen = λ _. refl; distinct = tt; maxima = tt; stream_room = omega arith }
 
 pub number_after_lem : (k : ℕ) (n : Numbers) → (n.next ≤ (number_after k n).next) × ((number_after k n).unstarted ≡ n.unstarted)
 number_after_lem zero n = (le_refl _, refl)
@@ -295,7 +295,7 @@ module _ (room : Room) (k : Call) (s : Sender) (v : Chunked room s) where
       with_lists _ _ _
       (lists_ring P Q Ordered s.pending.under_way (map (lowered id) o) s.pending s.flight.entries
       (each_map (P Ordered) (P Ordered) (lowered id) (pending_lowered s.streams s.numbers id Ordered) o (v.pending Ordered)) lists)
-      (λ a. v.unseen (λ i. elim i [ Unordered ↦ a Unordered | Ordered ↦ each_unmap Seen Seen (lowered id) (λ c h. rw (lowered_number id c) at h) o (a Ordered) ]))
+      (λ a. v.unseen (λ i. elim i as (λ k. Each Seen (at k s.pending)) [ Unordered ↦ a Unordered | Ordered ↦ each_unmap Seen Seen (lowered id) (λ c h. rw (lowered_number id c) at h) o (a Ordered) ]))
 
   started_chunked : (now : ℕ) → Chunked room (with_lifetimes now s)
   started_chunked now =
@@ -379,7 +379,7 @@ run_chunked room (k ∷ ks) s v = run_chunked room ks (step room k s).after (ste
 
 -- with both rings empty every message was seen
 pub chunked_seen : (room : Room) (s : Sender) → Chunked room s → s.pending.unordered ≡ [] → s.pending.ordered ≡ [] → s.numbers.unstarted ≡ s.numbers.next
-chunked_seen room s v e f = v.unseen (λ l. elim l [ Unordered ↦ rw e tt | Ordered ↦ rw f tt ])
+chunked_seen room s v e f = v.unseen (λ l. elim l as (λ k. Each {A = Chunk} (λ c. c.message.number < s.numbers.unstarted) (at k s.pending)) [ Unordered ↦ rw e tt | Ordered ↦ rw f tt ])
 
 pub reached_chunked : (room : Room) (t n : ℕ) (ks : List Call) → Chunked room (run room ks (fresh t n))
 reached_chunked room t n ks = run_chunked room ks (fresh t n) (chunked_fresh room t n)

@@ -3,7 +3,7 @@ use Prim.Native.Nat.{ℕ}
 use native.Mathlib.Omega.{arith}
 use mathlib.Core.Path.{◌≡◌, refl, sym, ap, subst, ◌∙◌}
 use mathlib.Core.Logic.{◌≢◌, inl, inr}
-use mathlib.Core.Bool.{Bool, true, false, true≢false, or_true}
+use mathlib.Core.Bool.{Bool, true, false, true≢false, or-true}
 use mathlib.Core.Option.{Option, none, some}
 use mathlib.Core.List.{List, [], ◌∷◌, ◌++◌, map}
 use lib.Dec.{eqb}
@@ -54,7 +54,7 @@ module _ (n : ℕ) where
 
   left_to_retransmit : (c : Chunk) → Left c → Left (to_retransmit c)
   left_to_retransmit c h e =
-      let g = h e in record { abandoned = g.abandoned; empty = g.empty; resting = rw (g.resting, g.abandoned, or_true c.acked) }
+      let g = h e in record { abandoned = g.abandoned; empty = g.empty; resting = rw (g.resting, g.abandoned, or-true c.acked) }
 
   left_terminators : (o : Option Chunk) → Each Left (terminators o)
   left_terminators none = tt

@@ -105,7 +105,7 @@ module _ (room : Room) where
 -- ---- a state
 
 fits_fresh : (room : Room) (t n : ℕ) → t < tsns → n ≤ number_max → Fits room (fresh t n)
-fits_fresh room t n h k = record { streams = tt; pending = λ l. elim l [ Unordered ↦ tt | Ordered ↦ tt ]; flying = tt; next = k; unstarted = le_refl n; oldest = h }
+fits_fresh room t n h k = record { streams = tt; pending = λ l. elim l as (λ k. Each (ChunkFits room) (at k (fresh t n).pending)) [ Unordered ↦ tt | Ordered ↦ tt ]; flying = tt; next = k; unstarted = le_refl n; oldest = h }
 
 -- a number that is taken is not the last
 below : (j n m : ℕ) → n ≤ m → (leb 1 (suc j) && eqb n m) ≡ false → n < m

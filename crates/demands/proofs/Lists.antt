@@ -36,9 +36,9 @@ at_ring P Ordered w x p a h Ordered = a
 -- chunks joined a ring
 pub joined_parts : (P : Chunk → Type 0) (k : Lane) (w : UnderWay) (x : List Chunk) (p : Pending) → ((l : Lane) → Each P (at l (with_ring k w (at k p ++ x) p))) → ((l : Lane) → Each P (at l p)) × Each P x
 joined_parts P Unordered w x p h =
-    let a = each_parts P p.unordered x (h Unordered) in (λ l. elim l [ Unordered ↦ a.0 | Ordered ↦ h Ordered ], a.1)
+    let a = each_parts P p.unordered x (h Unordered) in (λ l. elim l as (λ k. Each P (at k p)) [ Unordered ↦ a.0 | Ordered ↦ h Ordered ], a.1)
 joined_parts P Ordered w x p h =
-    let a = each_parts P p.ordered x (h Ordered) in (λ l. elim l [ Unordered ↦ h Unordered | Ordered ↦ a.0 ], a.1)
+    let a = each_parts P p.ordered x (h Ordered) in (λ l. elim l as (λ k. Each P (at k p)) [ Unordered ↦ h Unordered | Ordered ↦ a.0 ], a.1)
 
 -- both rings are changed alike
 pub at_both : (P : Lane → List Chunk → Type 0) (g : List Chunk → List Chunk) (p : Pending) → ((l : Lane) → P l (g (at l p))) → (l : Lane) → P l (at l (in_rings g p))
