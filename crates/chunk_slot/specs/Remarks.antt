@@ -1,7 +1,7 @@
 -- The small fields when some of them are taken from their word and added anew.
 use Rattle.std.specs.Prelude.{◌≡◌, refl, Bool, true, false, not, ◌||◌, ℕ, zero, suc, ◌+◌, ◌*◌, ◌/◌, ◌%◌, ◌<◌, eqb}
 use Rattle.std.proofs.Common.{sym, ap, ◌∙◌, arith}
-use Rattle.std.proofs.Math.Bool.{or_true}
+use Rattle.std.proofs.Math.Bool.{or-true}
 use Rattle.model.specs.Rings.{ssn_before}
 use Rattle.cells.specs.Words.{bit_of, bit_at}
 use Rattle.chunk_slot.specs.Marks.{Marks, marks_in, marks_word, marks_back}
@@ -99,5 +99,5 @@ again_same x e = sym (ap (λ (r : Bool). remarked x.ssn x.acked x.abandoned r x.
 pub again_new : (x : Marks) → x.acked ≡ false → x.abandoned ≡ false → remarked x.ssn x.acked x.abandoned true x.timed x.sent x ≡ sent_again x
 again_new x a b =
     let e : (x.retransmit || not (x.acked || x.abandoned)) ≡ true =
-    ap (λ (t : Bool). x.retransmit || not (t || x.abandoned)) a ∙ ap (λ (t : Bool). x.retransmit || not t) b ∙ or_true x.retransmit in
+    ap (λ (t : Bool). x.retransmit || not (t || x.abandoned)) a ∙ ap (λ (t : Bool). x.retransmit || not t) b ∙ or-true x.retransmit in
     sym (ap (λ (r : Bool). remarked x.ssn x.acked x.abandoned r x.timed x.sent x) e)

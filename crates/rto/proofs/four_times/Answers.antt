@@ -16,3 +16,11 @@ returns-then-x c = sym (high (mul binary64 (f64 4) c.args.rttvar) c.if-x.true c.
 pub returns : goal.returns
 unfolding four_times of_bits of_int
 returns c = sym (low (mul binary64 (f64 4) c.args.rttvar) c.if-x.false)
+
+pub truncating_f64_to_u64-requires-clause-lower_bound : goal.truncating_f64_to_u64-requires-clause-lower_bound
+unfolding of_bits of_int
+truncating_f64_to_u64-requires-clause-lower_bound c = subst T (sym (above (mul binary64 (f64 4) c.args.rttvar) c.if-x.true)) tt
+
+pub truncating_f64_to_u64-requires-clause-upper_bound : goal.truncating_f64_to_u64-requires-clause-upper_bound
+unfolding of_bits of_int
+truncating_f64_to_u64-requires-clause-upper_bound c = subst T (sym c.if-x-2.true) tt

@@ -1,6 +1,6 @@
 -- A bit is taken from the word and added anew, or nothing changes.
 use mathlib.Core.Path.{◌∙◌, ap}
-use mathlib.Core.Bool.{Bool, true, not, ◌||◌, or_true, or-false}
+use mathlib.Core.Bool.{Bool, true, not, ◌||◌, or-true, or-false}
 use Prim.Native.Nat.{◌+◌, ◌-◌, ◌*◌, ◌/◌, ◌%◌}
 use native.Mathlib.Omega.{arith}
 use borrow.Author.Tests.{eq-eqb, ne_eqb}
@@ -19,7 +19,7 @@ pub returns-then-marks-eq1-2 : goal.returns-then-marks-eq1-2
 unfolding marks_in
 returns-then-marks-eq1-2 c =
     let x = marks_in c.args.marks in
-    again_same x (ap (λ (b : Bool). x.retransmit || not (x.acked || b)) (eq-eqb _ 1 c.if-marks-eq1-2.true) ∙ ap (λ (b : Bool). x.retransmit || not b) (or_true x.acked) ∙ or-false x.retransmit)
+    again_same x (ap (λ (b : Bool). x.retransmit || not (x.acked || b)) (eq-eqb _ 1 c.if-marks-eq1-2.true) ∙ ap (λ (b : Bool). x.retransmit || not b) (or-true x.acked) ∙ or-false x.retransmit)
 
 pub returns : goal.returns
 unfolding marks_in

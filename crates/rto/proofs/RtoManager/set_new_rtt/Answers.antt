@@ -27,3 +27,29 @@ returns-then-rtt-gt-SETTING_MAX c = simp (lt-ltb _ _ c.if-rtt-gt-SETTING_MAX.tru
 
 pub returns-then-self : goal.returns-then-self
 returns-then-self c = simp (le-ltb _ _ c.if-rtt-gt-SETTING_MAX.false, c.if-self.true)
+
+pub returns-then-self-eq0 : goal.returns-then-self-eq0
+returns-then-self-eq0 c =
+    let s = c in
+    let t = s.args.self in
+    let r = s.args.rtt in
+    c.settle.ensures
+    ∙ ap (λ (v : Float). of (settled t r v)) c.first_var.ensures
+    ∙ ap of (sym (first t r c.if-self-eq0.true))
+    ∙ sym (taken t r s.if-rtt-gt-SETTING_MAX.false c.if-self.false)
+
+pub returns-then-self-gt-SETTING_MAX : goal.returns-then-self-gt-SETTING_MAX
+returns-then-self-gt-SETTING_MAX c =
+    let n = c in
+    let f = n in
+    let s = n in
+    c.settle-then-self-gt-SETTING_MAX.ensures
+    ∙ later s.args.self s.args.rtt n.any_next_srtt.result c.any_next_var.result s.if-rtt-gt-SETTING_MAX.false f.if-self.false f.if-self-eq0.false n.any_next_srtt.ensures c.any_next_var.ensures
+
+pub returns : goal.returns
+returns c =
+    let n = c in
+    let f = n in
+    let s = n in
+    c.settle-2.ensures
+    ∙ later s.args.self s.args.rtt n.next_srtt-srtt.result c.next_var-rttvar.result s.if-rtt-gt-SETTING_MAX.false f.if-self.false f.if-self-eq0.false n.next_srtt-srtt.ensures c.next_var-rttvar.ensures

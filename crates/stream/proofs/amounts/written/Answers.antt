@@ -17,8 +17,3 @@ overflow_add-buffered c =
     let a = c.args in
     let h = ltb-false buffered_max (a.stream.buffered + a.length) (sym c.would_overflow.ensures ∙ c.if-would_overflow.false) in
     omega arith
-
-pub returns : goal.returns
-returns c =
-    let a = c.args in
-    accept_fits a.protocol a.length a.stream c.would_overflow.ensures c.if-would_overflow.false c.is_unordered-unordered.ensures c.ssn_after_lem.ensures c.sent-statistics.ensures c.accounted-after.ensures c.rises-high.ensures
