@@ -1,5 +1,5 @@
 -- Document 01, "Flight": acknowledging, popping, marking, and what is asked of the flight and the rings.
-use Rattle.std.specs.Prelude.{ℕ, ◌+◌, ◌%◌, Bool, true, false, not, ◌||◌, List, [], ◌∷◌, map, length, eqb}
+use Rattle.std.specs.Prelude.{ℕ, ◌+◌, ◌%◌, Bool, true, false, not, ◌||◌, List, [], ◌∷◌, map, eqb}
 use Rattle.std.proofs.Math.Option.{Option, none, some}
 use Rattle.limits.specs.Limits.{tsns}
 use Rattle.model.specs.declared.Chunk.{Chunk}

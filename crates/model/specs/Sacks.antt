@@ -1,6 +1,6 @@
 -- What reading a SACK does. An accepted one is a list of single calls: the covered prefix is acknowledged and popped, then the blocks are
 -- acknowledged.
-use Rattle.std.specs.Prelude.{ℕ, zero, suc, ◌+◌, ◌-◌, ◌%◌, Bool, false, ◌||◌, List, [], ◌∷◌, ◌++◌, map, length, leb, ltb}
+use Rattle.std.specs.Prelude.{ℕ, zero, suc, ◌+◌, ◌-◌, ◌%◌, Bool, ◌||◌, List, [], ◌∷◌, ◌++◌, map, length, leb, ltb}
 use Rattle.limits.specs.Limits.{Room, tsns}
 use Rattle.limits.specs.Refusals.{bad_sack, bad_block}
 use Rattle.model.specs.declared.Block.{Block}

@@ -1,5 +1,5 @@
 -- What a queue of pending chunks means, and the kept sum of its bytes.
-use Rattle.std.specs.Prelude.{◌≡◌, ℕ, ◌+◌, ◌%◌, ◌^◌, ◌<◌, Bool, true, false, List, [], map, length, ◌==◌, refl}
+use Rattle.std.specs.Prelude.{◌≡◌, ℕ, ◌+◌, ◌%◌, ◌^◌, ◌<◌, Bool, true, false, List, [], map, ◌==◌, refl}
 use Rattle.std.proofs.Common.{arith}
 use Rattle.limits.specs.Flags.{is_set}
 use Rattle.model.specs.declared.Chunk.{Chunk}
