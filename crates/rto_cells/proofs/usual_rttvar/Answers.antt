@@ -1,0 +1,13 @@
+-- `usual_rttvar` is right since of a usual rttvar the sum of quarters is the float that the definition rounds to (`rto`'s `Scaled`). Assumes nothing.
+use native.Mathlib.Omega.{arith}
+use mathlib.Core.Path.{sym, ap, ◌∙◌}
+use Prim.Native.Nat.{ℕ, ◌^◌}
+use lib.Dec.{le→leb}
+use lib.Ieee.{binary64, add, mul, of_bits, in_float}
+use Rattle.rto.specs.Rto.{f64}
+use Rattle.rto.proofs.Scaled.{three_quarters, quarter, by_quarters}
+use Rattle.rto_cells.proofs.usual_rttvar.Goals as goal
+
+pub int_to_float-result : goal.int_to_float-result
+unfolding in_float
+int_to_float-result c = le→leb c.gap_of.result (2 ^ 53) (omega arith)

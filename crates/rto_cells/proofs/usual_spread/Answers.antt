@@ -1,0 +1,9 @@
+-- `usual_spread` is right since its steps on the bits are those of `rto`'s `Floor`, whose exponents keep the shift in range. Assumes nothing.
+use native.Mathlib.Nat.{le_trans}
+use native.Mathlib.Omega.{arith}
+use lib.Dec.{lit≤}
+use Rattle.rto.proofs.Floor.{no_nan, exponent_within, from_bits}
+use Rattle.rto_cells.proofs.usual_spread.Goals as goal
+
+pub float_to_bits-bits : goal.float_to_bits-bits
+float_to_bits-bits c = no_nan c.args.rttvar c.requires
