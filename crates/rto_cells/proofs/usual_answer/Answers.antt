@@ -7,6 +7,9 @@ use Rattle.rto.proofs.Scaled.{after_usual}
 use Rattle.rto.proofs.Usual.{usual_state, usual_measured}
 use Rattle.rto_cells.proofs.usual_answer.Goals as goal
 
+pub usual_rttvar-rttvar-requires : goal.usual_rttvar-rttvar-requires
+usual_rttvar-rttvar-requires c = let u = usual_state c.args.m c.requires.fact_1 in record { fact_1 = u.usual; fact_2 = u.near; fact_3 = c.requires.fact_2 }
+
 pub overflow_mul-srtt : goal.overflow_mul-srtt
 overflow_mul-srtt c = let h = (usual_state c.args.m c.requires.fact_1).near in omega arith
 

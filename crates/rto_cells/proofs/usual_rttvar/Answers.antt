@@ -11,3 +11,11 @@ use Rattle.rto_cells.proofs.usual_rttvar.Goals as goal
 pub int_to_float-result : goal.int_to_float-result
 unfolding in_float
 int_to_float-result c = le→leb c.gap_of.result (2 ^ 53) (omega arith)
+
+pub returns : goal.returns
+unfolding of_bits
+returns c =
+    let s = c in
+    let a = s.args in
+    ap (λ (n : ℕ). add binary64 (mul binary64 three_quarters a.rttvar) (mul binary64 quarter (f64 n))) c.gap_of.ensures
+    ∙ sym (by_quarters a.rttvar a.srtt a.rtt s.requires.fact_1 s.requires.fact_2 s.requires.fact_3)
