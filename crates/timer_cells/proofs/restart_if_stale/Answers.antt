@@ -2,7 +2,6 @@
 use native.Mathlib.Omega.{arith}
 use mathlib.Core.Path.{sym, ◌∙◌}
 use lib.ListN.{length}
-use borrow.Author.Tests.{not-true, not-false}
 use Rattle.timer.specs.Calls.{restart_if_stale_of}
 use Rattle.timer_cells.proofs.Laws.{no_size, no_place, no_call, not_restarted, running, stale}
 use Rattle.timer_cells.proofs.restart_if_stale.Goals as goal
@@ -16,13 +15,13 @@ returns-then-timer-ge-TIMER_COUNT c = let a = c.args in no_call a.head a.cells.n
 pub returns-then-not-startable : goal.returns-then-not-startable
 returns-then-not-startable c =
     let a = c.args in
-    not_restarted a.head a.cells.now a.timer (omega arith) (omega arith) a.clock a.interval (sym c.startable.ensures ∙ not-true _ c.if-not-startable.true) _ c.answer-then-not-startable.ensures
+    not_restarted a.head a.cells.now a.timer (omega arith) (omega arith) a.clock a.interval (sym c.startable.ensures ∙ c.if-not-startable.true) _ c.answer-then-not-startable.ensures
 
 pub returns-then-ahead : goal.returns-then-ahead
 returns-then-ahead c =
     let a = c.args in
     let m = c.moment-until in
-    running a.head a.cells.now a.timer (omega arith) (omega arith) a.clock a.interval (sym c.startable.ensures ∙ not-false _ c.if-not-startable.false) m.result m.ensures (sym c.ahead.ensures ∙ c.if-ahead.true) _ c.answer-then-ahead.ensures
+    running a.head a.cells.now a.timer (omega arith) (omega arith) a.clock a.interval (sym c.startable.ensures ∙ c.if-not-startable.false) m.result m.ensures (sym c.ahead.ensures ∙ c.if-ahead.true) _ c.answer-then-ahead.ensures
 
 pub returns : goal.returns
 returns c =

@@ -2,7 +2,6 @@
 use native.Mathlib.Omega.{arith}
 use mathlib.Core.Path.{sym, ◌∙◌}
 use lib.ListN.{length, length-set}
-use borrow.Author.Tests.{not-true, not-false}
 use Rattle.timer.proofs.Laws.{in_range}
 use Rattle.timer.specs.Calls.{start_of}
 use Rattle.timer_cells.proofs.Laws.{no_size, no_place, no_call, not_started, started}
@@ -17,15 +16,15 @@ returns-then-timer-ge-TIMER_COUNT c = let a = c.args in no_call a.head a.cells.n
 pub returns-then-not-startable : goal.returns-then-not-startable
 returns-then-not-startable c =
     let a = c.args in
-    not_started a.head a.cells.now a.timer (omega arith) (omega arith) a.clock a.interval (sym c.startable.ensures ∙ not-true _ c.if-not-startable.true) _ c.answer-then-not-startable.ensures
+    not_started a.head a.cells.now a.timer (omega arith) (omega arith) a.clock a.interval (sym c.startable.ensures ∙ c.if-not-startable.true) _ c.answer-then-not-startable.ensures
 
 pub wait-requires : goal.wait-requires
-wait-requires c = let a = c.args in (in_range a.clock a.interval (sym c.startable.ensures ∙ not-false _ c.if-not-startable.false)).1
+wait-requires c = let a = c.args in (in_range a.clock a.interval (sym c.startable.ensures ∙ c.if-not-startable.false)).1
 
 pub overflow_add-time : goal.overflow_add-time
 overflow_add-time c =
     let a = c.args in
-    omega (arith, in_range a.clock a.interval (sym c.startable.ensures ∙ not-false _ c.if-not-startable.false), c.wait.ensures)
+    omega (arith, in_range a.clock a.interval (sym c.startable.ensures ∙ c.if-not-startable.false), c.wait.ensures)
 
 pub bounds-cells-at-3 : goal.bounds-cells-at-3
 bounds-cells-at-3 c = simp length-set (omega arith)
@@ -33,4 +32,4 @@ bounds-cells-at-3 c = simp length-set (omega arith)
 pub returns : goal.returns
 returns c =
     let a = c.args in
-    started a.head a.cells.now a.timer (omega arith) (omega arith) a.clock a.interval (sym c.startable.ensures ∙ not-false _ c.if-not-startable.false) c.wait.result c.timed-rest.result c.wait.ensures.0 c.timed-rest.ensures _ c.answer-2.ensures
+    started a.head a.cells.now a.timer (omega arith) (omega arith) a.clock a.interval (sym c.startable.ensures ∙ c.if-not-startable.false) c.wait.result c.timed-rest.result c.wait.ensures.exact c.timed-rest.ensures _ c.answer-2.ensures

@@ -5,7 +5,7 @@ use Rattle.timer.proofs.Laws.{backoff_below}
 use Rattle.timer_cells.proofs.wait.Goals as goal
 
 pub returns-then-timer-eq-ACK : goal.returns-then-timer-eq-ACK
-returns-then-timer-eq-ACK c = (simp (eq-eqb _ _ c.if-timer-eq-ACK.true), c.requires)
+returns-then-timer-eq-ACK c = record { exact = simp (eq-eqb _ _ c.if-timer-eq-ACK.true); short = c.requires }
 
 pub returns : goal.returns
-returns c = (simp (c.calculate_next_timeout.ensures, ne_eqb _ _ c.if-timer-eq-ACK.false), omega (arith, c.calculate_next_timeout.ensures, backoff_below c.args.interval c.args.count c.args.rto_max))
+returns c = record { exact = simp (c.calculate_next_timeout.ensures, ne_eqb _ _ c.if-timer-eq-ACK.false); short = omega (arith, c.calculate_next_timeout.ensures, backoff_below c.args.interval c.args.count c.args.rto_max) }

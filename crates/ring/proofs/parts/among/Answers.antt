@@ -15,7 +15,7 @@ pub returns-then-end-from : goal.returns-then-end-from
 returns-then-end-from c =
     let a = c.args in
     let n = length_slots chunk_in a.cells.now in
-    sym (ap (has_stream a.stream) (part_none (chunks a.cells.now) a.from a.to (elim c.if-to-room.branch [ then-to-room w ↦ omega (arith, n) | else-to-room w ↦ omega (arith, n) ]))
+    sym (ap (has_stream a.stream) (part_none (chunks a.cells.now) a.from a.to (elim c.if-to-room.branch [ then-to-room w ↦ omega (arith, n) | else-to-room w ↦ omega (arith, n) ])))
 
 pub loop-at-init : goal.loop-at-init
 loop-at-init c = (omega arith, elim c.if-to-room.branch [ then-to-room w ↦ omega arith | else-to-room w ↦ omega arith ], refl)

@@ -1,7 +1,6 @@
 -- What is left to look at decides as all blocks do.
 use Prim.Native.Nat.{ℕ}
 use native.Mathlib.Nat.{sub-zero}
-use borrow.Author.Tests.{not-true, not-false}
 use Rattle.model.specs.Sack.{blocks_from, all_within}
 use Rattle.wire.specs.SackWalks.{no_block, is_within, not_within}
 use mathlib.Core.Path.{sym, ap, ◌∙◌}
@@ -16,14 +15,14 @@ pub returns-then-not-is_within : goal.returns-then-not-is_within
 returns-then-not-is_within c = let a = c.args in
     let l = c.loop-i in
     let q = a.part.now in
-    let f = sym c.is_within.ensures ∙ not-true c.is_within.result c.if-not-is_within.true in
+    let f = sym c.is_within.ensures ∙ c.if-not-is_within.true in
     sym (not_within a.left a.count l.i q (omega arith) c.block-next.ensures f) ∙ l.invariant.1
 
 pub loop-i-preserved : goal.loop-i-preserved
 loop-i-preserved c = let a = c.args in
     let l = c.loop-i in
     let q = a.part.now in
-    let t = sym c.is_within.ensures ∙ not-false c.is_within.result c.if-not-is_within.false in
+    let t = sym c.is_within.ensures ∙ c.if-not-is_within.false in
     (omega arith, sym (is_within a.left a.count l.i q (omega arith) c.block-next.ensures t) ∙ l.invariant.1)
 
 pub returns : goal.returns
