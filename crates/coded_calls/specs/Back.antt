@@ -26,8 +26,8 @@ use Rattle.coded_calls.specs.Words.{reply_words}
 abbrev pub flag : ℕ → Bool
 flag x = eqb x 1
 
-abbrev pub moment : (there when : ℕ) → Moment
-moment there when = when eqb there 1 then Moment.At when else Moment.Absent
+abbrev pub moment : (there time : ℕ) → Moment
+moment there time = when eqb there 1 then Moment.At time else Moment.Absent
 
 abbrev pub message_from : List ℕ → Message
 message_from w =

@@ -1,0 +1,25 @@
+-- By the case.
+use mathlib.Core.Path.{ap, ◌∙◌}
+use mathlib.Core.List.{◌∷◌}
+use Prim.Native.Nat.{ℕ}
+use lib.Seq.{sets}
+use Rattle.model.specs.declared.Written.{Written}
+use Rattle.model.specs.Calls.{to_write}
+use Rattle.coded_calls.specs.Words.{words}
+use Rattle.coded_calls.specs.Worded.{worded}
+use Rattle.coded_calls.proofs.answers.put_written.Goals as goal
+
+pub returns-in-Refused : goal.returns-in-Refused
+returns-in-Refused c =
+    let a = c.args in
+    let ws = a.tape.now in
+    let p = c.put_five in
+    worded (λ (x : Written). words (to_write x)) ws p.new.tape a.at p.result c.in-Refused.is p.ensures
+
+pub returns-in-Accepted : goal.returns-in-Accepted
+returns-in-Accepted c =
+    let a = c.args in
+    let ws = a.tape.now in
+    let p = c.put_five-in-Accepted in
+    let flag = c.bit.ensures.0 in
+    worded (λ (x : Written). words (to_write x)) ws p.new.tape a.at p.result c.in-Accepted.is (λ us. p.ensures us ∙ ap (λ (b : ℕ). sets ws a.at (2 ∷ 1 ∷ b ∷ 0 ∷ 0 ∷ us)) flag)
