@@ -7,11 +7,6 @@ use mir.Facts.{Fits-nat_abs, Fits-of_z, sfits_to_z, to_z-of_z}
 use Rattle.stream.specs.Amounts.{freeing, free_none, free_some, above_zero}
 use Rattle.stream.proofs.amounts.on_buffer_released.Goals as goal
 
-pub returns-then-released-le0 : goal.returns-then-released-le0
-returns-then-released-le0 c =
-    let a = c.args in
-    free_none (to_z w64 (of_z w64 a.released)) a.stream c.if-released-le0.true ∙ ap (λ (z : ℤ). freeing z a.stream) (to_z-of_z c.ranges.released)
-
 pub overflow_cast-released : goal.overflow_cast-released
 overflow_cast-released c =
     (above_zero (to_z w64 (of_z w64 c.args.released)) c.if-released-le0.false, Fits-nat_abs tt (sfits_to_z (Fits-of_z c.ranges.released)))

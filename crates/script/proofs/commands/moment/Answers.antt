@@ -1,0 +1,12 @@
+-- By the mark.
+use borrow.Author.Tests.{eq-eqb, ne_eqb}
+use Rattle.script.specs.Commands.{moment_of}
+use Rattle.script.proofs.commands.moment.Goals as goal
+
+pub returns-then-mark-eq1 : goal.returns-then-mark-eq1
+unfolding moment_of
+returns-then-mark-eq1 c = simp (eq-eqb _ _ c.if-mark-eq1.true)
+
+pub returns : goal.returns
+unfolding moment_of
+returns c = simp (ne_eqb _ _ c.if-mark-eq1.false)
