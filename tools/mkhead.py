@@ -162,12 +162,12 @@ def handed(sl):
     t = ['(‵ (flft κ%s q%s) ⊛ ‵ ((%s).own_val %s (%s ∷ [])))' % (p.s, p.s, p.row, '(%s)' % p.arg, p.val) for p in sl]
     while len(t) > 1: t[-2:] = ['(%s ⊛ %s)' % tuple(t[-2:])]
     return t
-def hand(c, sl, name):
+def hand(c, sl, name, at='ν δ'):
     for p in sl: c.join('tok' + p.s, 'sl' + p.s, 'A' + p.s)
     cur = 'A' + sl[-1].s if sl else ''
     for p in reversed(sl[:-1]): c.join('A' + p.s, cur, 'TS'); cur = 'TS'
     all_ = ['tk', 'cs'] + [cur] * bool(sl)
-    c.mv(*all_); c.say('use%d 𝓛 (raw (Callee%s.pre (to%s ν δ))) (calls%s ν δ isd) $' % (len(all_), name, name, name)); c.repl(len(all_), 'pre')
+    c.mv(*all_); c.say('use%d 𝓛 (raw (Callee%s.pre (to%s %s))) (calls%s %s isd) $' % (len(all_), name, name, at, name, at)); c.repl(len(all_), 'pre')
 def unhand(c, sl):
     for p in sl:
         if p is not sl[-1]: c.split('TS', 'A' + p.s, 'TS')
