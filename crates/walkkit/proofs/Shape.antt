@@ -1,7 +1,8 @@
 -- What the walks take, from a struct's own declaration.
 --     of_two           S is a struct of a head and a reply: `Lent.antt`'s `Two`
 --     cells-first      R is a struct of n words, n below 1024, and a head, in this order: `OnHead.antt`'s `State`
---     halves_of        a `&R` can be looked into
+--     halves_of        a share of an R in memory is its two halves, and back
+--     opens_of         a `&R` can be looked into: what `OnLook.antt` takes
 -- What a struct's generated modules know by computing, as where a field lies, is an argument, and `refl` where these are cited.
 -- It says nothing of the crate. Assumes `Logic`.
 use mathlib.Core.Path.{◌≡◌, refl, sym, ap, subst, ◌∙◌}
@@ -18,7 +19,9 @@ use ghost.Rules.{Halves}
 use types.Logic.{Logic}
 use denote.RattleType.{RattleType}
 use denote.Laws.{Is, shows, valss}
-use denote.Memory.{pointee, part_at, part-halves}
+use denote.Memory.{pointee, part_at}
+use denote.Opens.{Opens, Cuts-Halves}
+use denote.Copied.{Copied}
 use denote.Builtin.{u64}
 use denote.Array.{Array}
 use denote.Slice.{Room}
@@ -38,7 +41,10 @@ module _ {M : Type 1} {𝓤 : Ura M} (𝓛 : Logic 𝓤) where
   open 𝓛 use {H, A}
 
   pub halves_of : (R : Declared) → LL.Laws R → LL.Copyables R.parts → (h : R.D) (b o : ℕ) → Halves 𝓤 H A (λ q. part_at (row R) q h b o)
-  halves_of R L c h b o = part-halves 𝓛 (row R) (Is (row R)) (shows 𝓛 (row R)) (LL.vals R L) (LL.tells R L) (LL.copy R c 𝓛) h b o
+  halves_of R L c h b o = Cuts-Halves 𝓛 (λ q. part_at (row R) q h b o) ((LL.copied R c 𝓛).cuts h b o)
+
+  pub opens_of : (R : Declared) → LL.Copyables R.parts → Opens 𝓛 (row R)
+  opens_of R c = (LL.copied R c 𝓛).opens
 
   -- the reply lies d bytes past the head
   module _ (S : Declared) (L : LL.Laws S) {R N : RattleType} (dR : Data 𝓛 R) (dN : Data 𝓛 N) (d : ℕ) where
@@ -68,7 +74,25 @@ module _ {M : Type 1} {𝓤 : Ura M} (𝓛 : Logic 𝓤) where
     module _ (ν : Sym) (ls : List Lifetime) (X : Type 0) (values : X → Values parts) (one : (x y : X) → intos parts (values x) ≡ intos parts (values y) → x ≡ y) (L : LL.Lawss parts) (make : List ℕ → D.D → X) (made : (ws : List ℕ) (g : D.D) → values (make ws g) ≡ (ws, (g, tt))) (past : ℕ)
         (laid : field_at zero (tcons (ty_array (ty_int w64) n) (tcons (layout (shape D)) tnil)) 1 ≡ present (layout (shape D), past)) where
       abbrev R : Declared
-      R = record { name = ν; args = ls; parts = parts; D = X; to = λ x. intos parts (values x); to_one = one }
+      R = record {
+        name = ν;
+        args = ls;
+        types = [];
+        parts = parts;
+        D = X;
+        to = λ x. intos parts (values x);
+        to_one = one;
+        as_values = values;
+        to_is = λ x. refl;
+        cover = record {
+          Ghost = λ v. Unit {0};
+          ghosts = λ v. tt;
+          make = λ v g. make v.0 v.1.0;
+          eta = λ x. one (make (values x).0 (values x).1.0) x (ap (intos parts) (made (values x).0 (values x).1.0));
+          beta = λ v g. made v.0 v.1.0;
+        };
+        propositions = λ v x y. refl;
+      }
 
       abbrev head : X → D.D
       head h = (values h).1.0
