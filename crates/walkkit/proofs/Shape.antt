@@ -1,6 +1,6 @@
 -- What the walks take, from a struct's own declaration.
 --     of_two           S is a struct of a head and a reply: `Lent.antt`'s `Two`
---     cells-first      R is a struct of n words, n below 1024, and a head, in this order: `OnHead.antt`'s `State`
+--     cells_first      R is a struct of n words, n below 1024, and a head, in this order: `OnHead.antt`'s `State`
 --     halves_of        a share of an R in memory is its two halves, and back
 --     opens_of         a `&R` can be looked into: what `OnLook.antt` takes
 -- What a struct's generated modules know by computing, as where a field lies, is an argument, and `refl` where these are cited.
@@ -18,23 +18,22 @@ use prog.Memory.{field_at}
 use ghost.Rules.{Halves}
 use types.Logic.{Logic}
 use denote.RattleType.{RattleType}
-use denote.Laws.{Is, shows, valss}
+use denote.Laws.{Is, valss}
 use denote.Memory.{pointee, part_at}
 use denote.Opens.{Opens, Cuts-Halves}
-use denote.Copied.{Copied}
 use denote.Builtin.{u64}
 use denote.Array.{Array}
 use denote.Slice.{Room}
 use denote.Steps.{only}
 use denote.Struct.Struct.{layout, AreAll}
-use denote.Struct.Field.{Field, array_field, u64-field}
+use denote.Struct.Field.{Field, row_field}
 use denote.Struct.Values.{Values, intos}
 use denote.Struct.Declared.{Declared, fields, shape, row, field}
 use denote.Struct.Laws as LL
 use Rattle.walkkit.proofs.Lent.{Data, Two}
 use Rattle.walkkit.proofs.Reach.{Reach, field_of, whole_record}
-use Rattle.walkkit.proofs.Field.{Lends, lend_field, lend_numbers}
-use Rattle.walkkit.proofs.View.{view_field, view_record, view_numbers}
+use Rattle.walkkit.proofs.Field.{Lends, lend_field}
+use Rattle.walkkit.proofs.View.{view_field, view_record}
 use Rattle.walkkit.proofs.OnHead.{State, count_small}
 
 module _ {M : Type 1} {𝓤 : Ura M} (𝓛 : Logic 𝓤) where
@@ -68,7 +67,7 @@ module _ {M : Type 1} {𝓤 : Ura M} (𝓛 : Logic 𝓤) where
 
   module _ (D : Declared) (n : ℕ) where
     abbrev parts : List Field
-    parts = array_field u64-field n ∷ field D ∷ []
+    parts = row_field (Array u64 n) ∷ field D ∷ []
 
     -- X is the struct's own record. The head lies `past` bytes past the start
     module _ (ν : Sym) (ls : List Lifetime) (X : Type 0) (values : X → Values parts) (one : (x y : X) → intos parts (values x) ≡ intos parts (values y) → x ≡ y) (L : LL.Lawss parts) (make : List ℕ → D.D → X) (made : (ws : List ℕ) (g : D.D) → values (make ws g) ≡ (ws, (g, tt))) (past : ℕ)
@@ -104,7 +103,7 @@ module _ {M : Type 1} {𝓤 : Ura M} (𝓛 : Logic 𝓤) where
       reached h h' g e b o = whole_record 𝓛 D (field_of 𝓛 R L 1 past refl laid h h' (values h) g refl (ap (intos parts) e) b o)
 
       pub lent : (h : X) (b o : ℕ) → Lends 𝓛 (row R) (Array u64 n) (List ℕ) (λ ws. ws) h (cells h) (λ ws. make ws (head h)) b o (o + 0)
-      lent h b o = lend_numbers 𝓛 u64 n (lend_field 𝓛 R L 0 0 refl refl b o h (λ ws. make ws (head h)) (values h) refl (λ ws. ap (intos parts) (made ws (head h))))
+      lent h b o = lend_field 𝓛 R L 0 0 refl refl b o h (λ ws. make ws (head h)) (values h) refl (λ ws. ap (intos parts) (made ws (head h)))
 
       abbrev pub cells_first : (dD : Data 𝓛 (row D)) → dD.τ ≡ layout (shape D) → T (ltb n (2 ^ 64)) → Room u64 n → State 𝓛 (row R) (row D) dD
       cells_first dD same small room = record {
@@ -130,5 +129,5 @@ module _ {M : Type 1} {𝓤 : Ura M} (𝓛 : Logic 𝓤) where
         head_put = λ h g. reached h (make (cells h) g) g (made (cells h) g);
         lends = lent;
         sees_head = λ h b o. view_record 𝓛 D (view_field 𝓛 R L 1 past refl laid h (values h) refl refl b o);
-        sees_cells = λ h b o. view_numbers 𝓛 u64 n (cells h) (view_field 𝓛 R L 0 0 refl refl h (values h) refl refl b o);
+        sees_cells = λ h b o. view_field 𝓛 R L 0 0 refl refl h (values h) refl refl b o;
       }
