@@ -8,6 +8,7 @@ use mir.Syntax.{w64, int_big}
 use ghost.Rules.{Halves}
 use types.Logic.{Logic}
 use denote.Memory.{pointee, part_at}
+use denote.Opens.{Opens}
 use denote.Builtin.{u64}
 use denote.Array.{Array}
 use Rattle.walkkit.proofs.Lent.{Data, Two, of_struct}
@@ -15,7 +16,7 @@ use Rattle.walkkit.proofs.Reach.{Reach, field_of, whole_record}
 use Rattle.walkkit.proofs.Field.{Lends, lend_field, lend_numbers}
 use Rattle.walkkit.proofs.View.{Views, view_field, view_record, view_numbers}
 use Rattle.walkkit.proofs.OnHead.{State, count_big}
-use Rattle.walkkit.proofs.Shape.{halves_of, of_two}
+use Rattle.walkkit.proofs.Shape.{halves_of, opens_of, of_two}
 use Rattle.sender_head.specs.declared.Head.{Head}
 use Rattle.lent.specs.declared.Sender.{Sender}
 use Rattle.sender_head.specs.contracts.Head as D
@@ -89,6 +90,9 @@ module _ {M : Type 1} {𝓤 : Ura M} (𝓛 : Logic 𝓤) where
 
   pub halves : (h : Sender) (b o : ℕ) → Halves 𝓤 H A (λ q. part_at R.the_row q h b o)
   halves = halves_of 𝓛 R.the_type R'.the_laws R'.the_copy
+
+  pub opens : Opens 𝓛 R.the_row
+  opens = opens_of 𝓛 R.the_type R'.the_copy
 
   abbrev pub state : State 𝓛 R.the_row D.the_row head
   state = record {

@@ -8,10 +8,11 @@ use mir.Syntax.{w8}
 use ghost.Rules.{Halves}
 use types.Logic.{Logic}
 use denote.Memory.{part_at}
+use denote.Opens.{Opens}
 use denote.Plain.{UInt}
 use Rattle.walkkit.proofs.Lent.{Data, Two, of_uint, of_struct}
 use Rattle.walkkit.proofs.OnHead.{State}
-use Rattle.walkkit.proofs.Shape.{cells_first, halves_of, of_two}
+use Rattle.walkkit.proofs.Shape.{cells_first, halves_of, opens_of, of_two}
 use Rattle.lent_timer.specs.declared.Timers.{Timers}
 use Rattle.timer_cells.specs.contracts.Head as D
 use Rattle.timer_cells.proofs.Head.TheLaws as D'
@@ -47,6 +48,9 @@ module _ {M : Type 1} {𝓤 : Ura M} (𝓛 : Logic 𝓤) where
 
   pub halves : (h : Timers) (b o : ℕ) → Halves 𝓤 H A (λ q. part_at R.the_row q h b o)
   halves = halves_of 𝓛 R.the_type R'.the_laws R'.the_copy
+
+  pub opens : Opens 𝓛 R.the_row
+  opens = opens_of 𝓛 R.the_type R'.the_copy
 
   -- each of the two is a struct of a head and a reply, 4 bytes past it
   abbrev pub said : Two 𝓛 D.the_row (UInt w8) S.the_row head answer
