@@ -191,7 +191,7 @@ def gen(name, kinds):
     sl, ms = slices(ps)
     iS, iD, iA, iC = k + 2, k + 3, k + 4, k + 5
     mloc = {p.i: (k + 6 + 2 * j, k + 7 + 2 * j) for j, p in enumerate(ms)}
-    n = k + 6 + 2 * len(ms)
+    iT = k + 6 + 2 * len(ms); n = iT + 1
     o = []
     w = lambda s: o.append(s)
     xs_ty = ''.join('%s → ' % p.den for p in ps)
@@ -204,13 +204,14 @@ def gen(name, kinds):
     w('  module _ %s(J : D.Denot → List ℕ → %sList ℕ → %sS.Denot → Type 0) (Q : R.Denot → %sR.Denot → %sN.Denot → Type 0)' % (''.join(p.types + ' ' for p in ps), xs_ty, ms_ty, xs_ty, ms_ty))
     w('      (tell : (h : R.Denot)%s (ws : List ℕ)%s (r : S.Denot) → length (z.cells h) ≡ z.n → length ws ≡ z.n → J (z.head h) (z.cells h)%s ws%s r → Q h%s (z.put_head (z.put_cells h ws) (two.fst r))%s (two.snd r)) (g : Symbol) where' % (ents, zbinds, vars_, zs, vars_, zs))
     # the code
-    locs = ['(dN.τ)', '(ty_ref (named 0) mut z.πR)'] + [p.mty for p in ps] + ['τS', '(dD.τ)', '(ty_ref erased mut (ty_array (ty_int w64) z.n))', '(slice_ty (ty_ref erased mut (ty_int w64)))'] + on_types(ms)
+    locs = ['(dN.τ)', '(ty_ref (named 0) mut z.πR)'] + [p.mty for p in ps] + ['τS', '(dD.τ)', '(ty_ref erased mut (ty_array (ty_int w64) z.n))', '(slice_ty (ty_ref erased mut (ty_int w64)))'] + on_types(ms) + ['(dD.τ)']
     stm = ['assign (place %d []) (rv_opd (copy (place 1 (deref z.τR ∷ field z.k_d ∷ []))))' % iD,
            'assign (place %d []) (addr_of (place 1 (deref z.τR ∷ field z.k_c ∷ [])))' % iA,
            'assign (place %d []) (aggregate (copy (place %d []) ∷ z.num ∷ []))' % (iC, iA), *on_code(ms, mloc)]
     src = [iD, iC] + [mloc[p.i][1] if p.kind == 'm' else p.i + 1 for p in ps]
     stm += ['call (fn₀ g) (%s) (place %d [])' % (lst('copy (place %d [])' % i for i in src), iS),
-            'assign (place 1 (deref z.τR ∷ field z.k_d ∷ [])) (rv_opd (copy (place %d (field 0 ∷ []))))' % iS,
+            'assign (place %d []) (rv_opd (copy (place %d (field 0 ∷ []))))' % (iT, iS),
+            'assign (place 1 (deref z.τR ∷ field z.k_d ∷ [])) (rv_opd (copy (place %d [])))' % iT,
             'assign (place 0 []) (rv_opd (copy (place %d (field 1 ∷ []))))' % iS]
     w('    abbrev pub fn%s : Fn' % name)
     w('    fn%s = record {' % name)
@@ -334,7 +335,9 @@ def gen(name, kinds):
     c.mv('arr', 'back'); c.say('use2 𝓛 (‵ (part_at R full_share (z.put_cells h ws.1.0) b o)) (apply∗ 𝓤 (%s ws.1.0 b %s) (%s (z.put_cells h ws.1.0) b o)) $' % (A_, off, R_)); c.repl(2, 'part')
     c.note()
     LS = c.at('L%d' % iS)
-    c.say('assigns ! (of_opd ! (load ! (from ! (fld ! (two.at_0) (stop !))) (look_in ! %d (sub ! 0 (two.at_0) (whole !))))) (from ! (hop ! (look ! %d refl) (fld ! (z.at_head) (stop !)))) (store_part ! %d z.one dD.makes dD.τ (z.raw_head) refl (z.head_put (z.put_cells h ws.1.0) (two.fst r) b o) (two.is_fst r v isr) (dD.typed (two.fst r) _ (two.is_fst r v isr))) $' % (LS, c.at('L1'), c.at('part')), True)
+    LT = c.at('L%d' % iT)
+    c.say('assigns ! (of_opd ! (load ! (from ! (fld ! two.at_0 (stop !))) (look_in ! %d (sub ! 0 two.at_0 (whole !))))) (from ! (stop !)) (init ! %d refl (dD.typed (two.fst r) _ (two.is_fst r v isr))) $' % (LS, LT), True)
+    c.say('assigns ! (of_opd ! (load ! (from ! (stop !)) (look ! %d refl))) (from ! (hop ! (look ! %d refl) (fld ! z.at_head (stop !)))) (store_part ! %d z.one dD.makes dD.τ z.raw_head refl (z.head_put (z.put_cells h ws.1.0) (two.fst r) b o) (two.is_fst r v isr) (dD.typed (two.fst r) _ (two.is_fst r v isr))) $' % (LT, c.at('L1'), c.at('part')), True)
     c.say('assigns ! (of_opd ! (load ! (from ! (fld ! (two.at_1) (stop !))) (look_in ! %d (sub ! 1 (two.at_1) (whole !))))) (from ! (stop !)) (init ! %d refl (dN.typed (two.snd r) _ (two.is_snd r v isr))) $' % (LS, c.at('L0')), True)
     c.mv('part', 'open', 'obs', 'auth'); c.say('close_ref ! tt (mem R) (z.put_head (z.put_cells h ws.1.0) (two.fst r)) {b = b} {o = o} $', True); c.repl(4, 'obs', 'bor', 'tok')
     c.say('returns ! (look ! %d refl) $' % c.at('L0'))
