@@ -6,7 +6,7 @@ use mir.Syntax.{w8, w64}
 use contract.Running.{tables, tables_of}
 use denote.Plain.{UInt}
 use denote.Triple.Spec.{triple_of}
-use denote.Triple.Table.{entered, cited}
+use denote.Triple.Table.{entered}
 use Rattle.walkkit.proofs.Lent.{of_uint}
 use Rattle.walkkit.proofs.OnHead.{on_head_3}
 use Rattle.rto_cells.specs.Says as Cells
@@ -16,21 +16,20 @@ use Rattle.rto_cells.specs.contracts.Head as D
 use Rattle.rto_cells.specs.contracts.Said as S
 use Rattle.lent_rto.specs.contracts.Rto as R
 use Rattle.rto_cells.specs.contracts.new as g
-use Rattle.rto_cells.proofs.new.Symbol as g-def
-use Rattle.rto_cells.proofs.new.Symbol.{name as #g}
+use Rattle.rto_cells.proofs.new.Symbol.{symbol as #g}
 use Rattle.rto_cells.proofs.new.Met as g-thm
 use Rattle.lent_rto.specs.contracts.girdermoth_rto_new.Key.{name as #f}
 use Rattle.lent_rto.specs.contracts.girdermoth_rto_new as f
 use Rattle.lent_rto.proofs.girdermoth_rto_new.Statement as stated
 use Rattle.lent_rto.proofs.girdermoth_rto_new.Code as code
 
-pub girdermoth-rto-new-spec : {M : Type 1} → stated.statement M
-unfolding code.routine tables_of
-girdermoth-rto-new-spec 𝓤 𝓛 𝓜 𝓡 =
-    entered 𝓤 𝓛.H (triple_of 𝓛 f.signature (f.spec 𝓛 𝓜.mem 𝓡.run))
-    (tables 𝓤 𝓛.H 𝓜 𝓡 code.env).C (tables 𝓤 𝓛.H 𝓜 𝓡 code.env).Λ #f code.function (code.unfolded 𝓤 𝓛.H 𝓜 𝓡)
+pub girdermoth_rto_new_spec : {M : Type 1} → stated.statement M
+unfolding tables_of
+girdermoth_rto_new_spec 𝓤 𝓛 𝓜 𝓡 wired =
+    entered 𝓤 𝓛.H (triple_of 𝓛 f.signature (f.spec 𝓛 𝓜.mem 𝓡.returns))
+    (tables 𝓤 𝓛.H 𝓜 𝓡 𝓡.env).C (tables 𝓤 𝓛.H 𝓜 𝓡 𝓡.env).Λ #f code.function (code.unfolded 𝓤 𝓛.H 𝓜 𝓡 wired)
     (on_head_3 𝓛 R.the_row D.the_row (UInt w8) S.the_row (head 𝓛) (answer 𝓛) (state 𝓛) (said 𝓛) (UInt w64) (of_uint 𝓛 w64) (UInt w64) (of_uint 𝓛 w64) (UInt w64) (of_uint 𝓛 w64)
     (λ d ws x₁ x₂ x₃ ws' r. Cells.Creates (length ws) x₁ x₂ x₃ d ws r.head ws' r.reply)
     (λ h x₁ x₂ x₃ h' y. New x₁ x₂ x₃ h h' y)
-    (λ h x₁ x₂ x₃ ws' r e e' j. subst (λ (n : ℕ). Cells.Creates n x₁ x₂ x₃ h.head h.cells r.head ws' r.reply) e j) #g (tables_of 𝓤 𝓛.H 𝓜 (tables 𝓤 𝓛.H 𝓜 𝓡 code.env))
-    (cited 𝓤 𝓛.H (triple_of 𝓛 g.signature (g.spec 𝓛 𝓜.mem 𝓡.run)) 𝓜 𝓡 code.env #g g-def.routine code.calls-rto-cells::new (g-thm.met 𝓤 𝓛 𝓜 𝓡)))
+    (λ h x₁ x₂ x₃ ws' r e e' j. subst (λ (n : ℕ). Cells.Creates n x₁ x₂ x₃ h.head h.cells r.head ws' r.reply) e j) #g (tables_of 𝓤 𝓛.H 𝓜 (tables 𝓤 𝓛.H 𝓜 𝓡 𝓡.env))
+    (g-thm.met 𝓤 𝓛 𝓜 𝓡 (code.calls-rto_cells::new 𝓡.env wired)))

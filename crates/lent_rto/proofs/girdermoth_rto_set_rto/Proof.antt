@@ -6,7 +6,7 @@ use mir.Syntax.{w8, w64}
 use contract.Running.{tables, tables_of}
 use denote.Plain.{Boolean, UInt}
 use denote.Triple.Spec.{triple_of}
-use denote.Triple.Table.{entered, cited}
+use denote.Triple.Table.{entered}
 use Rattle.walkkit.proofs.Lent.{of_bool, of_uint}
 use Rattle.walkkit.proofs.OnHead.{on_head_2}
 use Rattle.rto_cells.specs.Says as Cells
@@ -16,21 +16,20 @@ use Rattle.rto_cells.specs.contracts.Head as D
 use Rattle.rto_cells.specs.contracts.Said as S
 use Rattle.lent_rto.specs.contracts.Rto as R
 use Rattle.rto_cells.specs.contracts.set_rto as g
-use Rattle.rto_cells.proofs.set_rto.Symbol as g-def
-use Rattle.rto_cells.proofs.set_rto.Symbol.{name as #g}
+use Rattle.rto_cells.proofs.set_rto.Symbol.{symbol as #g}
 use Rattle.rto_cells.proofs.set_rto.Met as g-thm
 use Rattle.lent_rto.specs.contracts.girdermoth_rto_set_rto.Key.{name as #f}
 use Rattle.lent_rto.specs.contracts.girdermoth_rto_set_rto as f
 use Rattle.lent_rto.proofs.girdermoth_rto_set_rto.Statement as stated
 use Rattle.lent_rto.proofs.girdermoth_rto_set_rto.Code as code
 
-pub girdermoth-rto-set-rto-spec : {M : Type 1} → stated.statement M
-unfolding code.routine tables_of
-girdermoth-rto-set-rto-spec 𝓤 𝓛 𝓜 𝓡 =
-    entered 𝓤 𝓛.H (triple_of 𝓛 f.signature (f.spec 𝓛 𝓜.mem 𝓡.run))
-    (tables 𝓤 𝓛.H 𝓜 𝓡 code.env).C (tables 𝓤 𝓛.H 𝓜 𝓡 code.env).Λ #f code.function (code.unfolded 𝓤 𝓛.H 𝓜 𝓡)
+pub girdermoth_rto_set_rto_spec : {M : Type 1} → stated.statement M
+unfolding tables_of
+girdermoth_rto_set_rto_spec 𝓤 𝓛 𝓜 𝓡 wired =
+    entered 𝓤 𝓛.H (triple_of 𝓛 f.signature (f.spec 𝓛 𝓜.mem 𝓡.returns))
+    (tables 𝓤 𝓛.H 𝓜 𝓡 𝓡.env).C (tables 𝓤 𝓛.H 𝓜 𝓡 𝓡.env).Λ #f code.function (code.unfolded 𝓤 𝓛.H 𝓜 𝓡 wired)
     (on_head_2 𝓛 R.the_row D.the_row (UInt w8) S.the_row (head 𝓛) (answer 𝓛) (state 𝓛) (said 𝓛) (UInt w64) (of_uint 𝓛 w64) Boolean (of_bool 𝓛)
     (λ d ws x₁ x₂ ws' r. Cells.Sets (length ws) x₁ x₂ d ws r.head ws' r.reply)
     (λ h x₁ x₂ h' y. SetRto x₁ x₂ h h' y)
-    (λ h x₁ x₂ ws' r e e' j. subst (λ (n : ℕ). Cells.Sets n x₁ x₂ h.head h.cells r.head ws' r.reply) e j) #g (tables_of 𝓤 𝓛.H 𝓜 (tables 𝓤 𝓛.H 𝓜 𝓡 code.env))
-    (cited 𝓤 𝓛.H (triple_of 𝓛 g.signature (g.spec 𝓛 𝓜.mem 𝓡.run)) 𝓜 𝓡 code.env #g g-def.routine code.calls-rto-cells::set-rto (g-thm.met 𝓤 𝓛 𝓜 𝓡)))
+    (λ h x₁ x₂ ws' r e e' j. subst (λ (n : ℕ). Cells.Sets n x₁ x₂ h.head h.cells r.head ws' r.reply) e j) #g (tables_of 𝓤 𝓛.H 𝓜 (tables 𝓤 𝓛.H 𝓜 𝓡 𝓡.env))
+    (g-thm.met 𝓤 𝓛 𝓜 𝓡 (code.calls-rto_cells::set_rto 𝓡.env wired)))
