@@ -21,7 +21,14 @@ fn byte_for(ruled: bool, seed: u8, i: usize) -> u8
 }
 
 // Every byte.
-pub fn fill(bytes: &mut [u8], out: &mut [u8], at: usize, ruled: bool, seed: u8) -> usize
+pub fn fill(
+    rt: &impl Print,
+    bytes: &mut [u8],
+    out: &mut [u8],
+    at: usize,
+    ruled: bool,
+    seed: u8,
+) -> usize
     ensures { bytes.new ≡ filled ruled seed (length bytes.old) }
 {
     let n = bytes.len();
@@ -30,7 +37,7 @@ pub fn fill(bytes: &mut [u8], out: &mut [u8], at: usize, ruled: bool, seed: u8) 
         bytes[i] = byte_for(ruled, seed, i);
         i += 1;
     }
-    lines::done(out, at)
+    lines::done(rt, out, at)
 }
 
 // What is behind the end is left out.
@@ -48,7 +55,15 @@ fn put_byte(bytes: &mut [u8], from: u64, i: u64, byte: u8)
 }
 
 // The last bytes of a number, most significant first.
-pub fn put(bytes: &mut [u8], out: &mut [u8], at: usize, from: u64, width: u64, value: u64) -> usize
+pub fn put(
+    rt: &impl Print,
+    bytes: &mut [u8],
+    out: &mut [u8],
+    at: usize,
+    from: u64,
+    width: u64,
+    value: u64,
+) -> usize
     ensures { bytes.new ≡ sets bytes.old from (last_bytes width value) }
 {
     let mut rest = value;
@@ -58,7 +73,7 @@ pub fn put(bytes: &mut [u8], out: &mut [u8], at: usize, from: u64, width: u64, v
         put_byte(bytes, from, i, (rest % 256) as u8);
         rest /= 256;
     }
-    lines::done(out, at)
+    lines::done(rt, out, at)
 }
 
 // ---- what shows them
@@ -68,14 +83,14 @@ fn wide(byte: u8) -> u64 {
 }
 
 // Two digits a byte, and a dash where there is none.
-fn hexadecimal(out: &mut [u8], at: usize, bytes: &[u8]) -> usize {
+fn hexadecimal(rt: &impl Print, out: &mut [u8], at: usize, bytes: &[u8]) -> usize {
     if bytes.len() == 0 {
-        return lines::byte(out, at, b'-');
+        return lines::byte(rt, out, at, b'-');
     }
     let mut place = at;
     let mut i = 0;
     while i < bytes.len() {
-        place = lines::hexadecimal(out, place, wide(bytes[i]), 2);
+        place = lines::hexadecimal(rt, out, place, wide(bytes[i]), 2);
         i += 1;
     }
     place
@@ -93,44 +108,52 @@ pub fn place_in(bytes: &[u8], wanted: u64) -> usize
 }
 
 // So many bytes from a place on, as many as there are.
-pub fn look(bytes: &[u8], out: &mut [u8], at: usize, from: u64, count: u64) -> usize {
+pub fn look(
+    rt: &impl Print,
+    bytes: &[u8],
+    out: &mut [u8],
+    at: usize,
+    from: u64,
+    count: u64,
+) -> usize {
     let start = place_in(bytes, from);
     let rest = &bytes[start..];
     let end = place_in(rest, count);
-    let behind = hexadecimal(out, at, &rest[0..end]);
-    lines::line(out, behind)
+    let behind = hexadecimal(rt, out, at, &rest[0..end]);
+    lines::line(rt, out, behind)
 }
 
 // ---- a SACK
 
-pub fn sacked(out: &mut [u8], at: usize, answer: Sacked) -> usize {
+pub fn sacked(rt: &impl Print, out: &mut [u8], at: usize, answer: Sacked) -> usize {
     match answer {
         Sacked::Released(bytes) => {
             let values = [bytes];
-            lines::numbers(out, at, b"bytes=\n", &values)
+            lines::numbers(rt, out, at, b"bytes=\n", &values)
         }
-        Sacked::Stale => lines::text(out, at, b"stale\n"),
-        Sacked::Refused(n) => lines::refusal(out, at, n),
+        Sacked::Stale => lines::text(rt, out, at, b"stale\n"),
+        Sacked::Refused(n) => lines::refusal(rt, out, at, n),
     }
 }
 
 // ---- a chunk that is written
 
 // How many bytes were written; these, and up to eight behind them, which must have stayed.
-fn laid_out(bytes: &[u8], out: &mut [u8], at: usize, answer: Laid) -> usize {
+fn laid_out(rt: &impl Print, bytes: &[u8], out: &mut [u8], at: usize, answer: Laid) -> usize {
     match answer {
         Laid::Bytes(count) => {
             let values = [count as u64];
-            let place = lines::numbers(out, at, b"n= ", &values);
+            let place = lines::numbers(rt, out, at, b"n= ", &values);
             let written = place_in(bytes, count as u64) as u64;
-            look(bytes, out, place, 0, written + 8)
+            look(rt, bytes, out, place, 0, written + 8)
         }
-        Laid::Refused(n) => lines::refusal(out, at, n),
+        Laid::Refused(n) => lines::refusal(rt, out, at, n),
     }
 }
 
 // The DATA chunk of a TSN, in the first `room` bytes of the wire; its payload is in the first `lent` of the memory.
 pub fn data(
+    rt: &impl Print,
     h: Head,
     cells: &[u64],
     wire: &mut [u8],
@@ -146,5 +169,5 @@ pub fn data(
     let k = place_in(memory, lent);
     let n = place_in(wire, room);
     let answer = sender_asks::chunks::data_chunk(h, cells, &memory[0..k], &mut wire[0..n], tsn);
-    laid_out(&wire[0..n], out, at, answer)
+    laid_out(rt, &wire[0..n], out, at, answer)
 }

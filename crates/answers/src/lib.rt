@@ -11,10 +11,10 @@ use model::{Chunk, Reliability, Stream};
 // ---- a chunk
 
 // The five payload types of the Rust by number, and every other by a word.
-fn protocol(out: &mut [u8], at: usize, n: u32) -> usize {
+fn protocol(rt: &impl Print, out: &mut [u8], at: usize, n: u32) -> usize {
     match n {
-        50 | 51 | 53 | 56 | 57 => lines::number(out, at, b" type=", n as u64),
-        _ => lines::text(out, at, b" type=other"),
+        50 | 51 | 53 | 56 | 57 => lines::number(rt, out, at, b" type=", n as u64),
+        _ => lines::text(rt, out, at, b" type=other"),
     }
 }
 
@@ -27,22 +27,22 @@ fn kind_digit(kind: u8) -> u8 {
     }
 }
 
-fn reliability(out: &mut [u8], at: usize, kept: Reliability) -> usize {
-    let place = lines::text(out, at, b" rel=");
-    let value = lines::byte(out, place, kind_digit(kept.kind));
-    lines::number(out, value, b":", kept.value as u64)
+fn reliability(rt: &impl Print, out: &mut [u8], at: usize, kept: Reliability) -> usize {
+    let place = lines::text(rt, out, at, b" rel=");
+    let value = lines::byte(rt, out, place, kind_digit(kept.kind));
+    lines::number(rt, out, value, b":", kept.value as u64)
 }
 
 // A chunk that holds no byte has no offset.
-fn payload(out: &mut [u8], at: usize, offset: u64, length: u32) -> usize {
+fn payload(rt: &impl Print, out: &mut [u8], at: usize, offset: u64, length: u32) -> usize {
     if length == 0 {
-        return lines::text(out, at, b" off=- len=0");
+        return lines::text(rt, out, at, b" off=- len=0");
     }
     let values = [offset, length as u64];
-    lines::numbers(out, at, b" off= len=", &values)
+    lines::numbers(rt, out, at, b" off= len=", &values)
 }
 
-fn head_of(out: &mut [u8], at: usize, tsn: u32, chunk: Chunk) -> usize {
+fn head_of(rt: &impl Print, out: &mut [u8], at: usize, tsn: u32, chunk: Chunk) -> usize {
     let message = chunk.message;
     let flags = wire::flags::octet(chunk);
     let values = [
@@ -51,23 +51,23 @@ fn head_of(out: &mut [u8], at: usize, tsn: u32, chunk: Chunk) -> usize {
         message.ssn as u64,
         flags as u64,
     ];
-    lines::numbers(out, at, b"tsn= sid= ssn= flags=", &values)
+    lines::numbers(rt, out, at, b"tsn= sid= ssn= flags=", &values)
 }
 
-fn message_of(out: &mut [u8], at: usize, chunk: Chunk) -> usize {
+fn message_of(rt: &impl Print, out: &mut [u8], at: usize, chunk: Chunk) -> usize {
     let message = chunk.message;
     let kept = message.reliability;
     let deadline = message.deadline;
-    let p1 = protocol(out, at, message.protocol);
-    let p2 = payload(out, p1, chunk.offset, chunk.length);
-    let p3 = lines::number(out, p2, b" msg=", message.number);
-    let p4 = reliability(out, p3, kept);
-    lines::moment(out, p4, b" deadline=", deadline)
+    let p1 = protocol(rt, out, at, message.protocol);
+    let p2 = payload(rt, out, p1, chunk.offset, chunk.length);
+    let p3 = lines::number(rt, out, p2, b" msg=", message.number);
+    let p4 = reliability(rt, out, p3, kept);
+    lines::moment(rt, out, p4, b" deadline=", deadline)
 }
 
-fn sending_of(out: &mut [u8], at: usize, chunk: Chunk) -> usize {
+fn sending_of(rt: &impl Print, out: &mut [u8], at: usize, chunk: Chunk) -> usize {
     let since = chunk.since;
-    let place = lines::moment(out, at, b" since=", since);
+    let place = lines::moment(rt, out, at, b" since=", since);
     let values = [
         chunk.nsent as u64,
         chunk.acked as u64,
@@ -75,18 +75,24 @@ fn sending_of(out: &mut [u8], at: usize, chunk: Chunk) -> usize {
         chunk.retransmit as u64,
         0,
     ];
-    lines::numbers(out, place, b" nsent= acked= aband= retx= miss=\n", &values)
+    lines::numbers(
+        rt,
+        out,
+        place,
+        b" nsent= acked= aband= retx= miss=\n",
+        &values,
+    )
 }
 
-pub fn chunk(out: &mut [u8], at: usize, tsn: u32, chunk: Chunk) -> usize {
-    let p1 = head_of(out, at, tsn, chunk);
-    let p2 = message_of(out, p1, chunk);
-    sending_of(out, p2, chunk)
+pub fn chunk(rt: &impl Print, out: &mut [u8], at: usize, tsn: u32, chunk: Chunk) -> usize {
+    let p1 = head_of(rt, out, at, tsn, chunk);
+    let p2 = message_of(rt, out, p1, chunk);
+    sending_of(rt, out, p2, chunk)
 }
 
 // ---- a stream
 
-fn settings_of(out: &mut [u8], at: usize, stream: Stream) -> usize {
+fn settings_of(rt: &impl Print, out: &mut [u8], at: usize, stream: Stream) -> usize {
     let kept = stream.reliability;
     let values = [
         stream.identifier as u64,
@@ -94,11 +100,11 @@ fn settings_of(out: &mut [u8], at: usize, stream: Stream) -> usize {
         stream.ssn as u64,
         stream.unordered as u64,
     ];
-    let place = lines::numbers(out, at, b"sid= m= ssn= u=", &values);
-    reliability(out, place, kept)
+    let place = lines::numbers(rt, out, at, b"sid= m= ssn= u=", &values);
+    reliability(rt, out, place, kept)
 }
 
-fn amounts_of(out: &mut [u8], at: usize, stream: Stream) -> usize {
+fn amounts_of(rt: &impl Print, out: &mut [u8], at: usize, stream: Stream) -> usize {
     let sent = stream.statistics;
     let values = [
         stream.buffered as u64,
@@ -107,10 +113,10 @@ fn amounts_of(out: &mut [u8], at: usize, stream: Stream) -> usize {
         sent.messages,
         sent.bytes,
     ];
-    lines::numbers(out, at, b" buf= low= high= msgs= bytes=\n", &values)
+    lines::numbers(rt, out, at, b" buf= low= high= msgs= bytes=\n", &values)
 }
 
-pub fn stream(out: &mut [u8], at: usize, stream: Stream) -> usize {
-    let place = settings_of(out, at, stream);
-    amounts_of(out, place, stream)
+pub fn stream(rt: &impl Print, out: &mut [u8], at: usize, stream: Stream) -> usize {
+    let place = settings_of(rt, out, at, stream);
+    amounts_of(rt, out, place, stream)
 }

@@ -10,42 +10,42 @@ use stream_table::Place;
 
 // ---- answers by their kind
 
-fn done(out: &mut [u8], at: usize, answer: Done) -> usize {
+fn done(rt: &impl Print, out: &mut [u8], at: usize, answer: Done) -> usize {
     match answer {
-        Done::Done => lines::done(out, at),
-        Done::Refused(n) => lines::refusal(out, at, n),
+        Done::Done => lines::done(rt, out, at),
+        Done::Refused(n) => lines::refusal(rt, out, at, n),
     }
 }
 
-fn written(out: &mut [u8], at: usize, length: u64, answer: Written) -> usize {
+fn written(rt: &impl Print, out: &mut [u8], at: usize, length: u64, answer: Written) -> usize {
     match answer {
         Written::Accepted(high) => {
             let values = [length, high as u64];
-            lines::numbers(out, at, b"ok len= high=\n", &values)
+            lines::numbers(rt, out, at, b"ok len= high=\n", &values)
         }
-        Written::Refused(n) => lines::refusal(out, at, n),
+        Written::Refused(n) => lines::refusal(rt, out, at, n),
     }
 }
 
-fn released(out: &mut [u8], at: usize, answer: Released) -> usize {
+fn released(rt: &impl Print, out: &mut [u8], at: usize, answer: Released) -> usize {
     match answer {
         Released::Told(low) => {
             let values = [low as u64];
-            lines::numbers(out, at, b"ok low=\n", &values)
+            lines::numbers(rt, out, at, b"ok low=\n", &values)
         }
-        Released::Refused(n) => lines::refusal(out, at, n),
+        Released::Refused(n) => lines::refusal(rt, out, at, n),
     }
 }
 
-fn sent(out: &mut [u8], at: usize, answer: Sent) -> usize {
+fn sent(rt: &impl Print, out: &mut [u8], at: usize, answer: Sent) -> usize {
     match answer {
-        Sent::Yielded(tsn, chunk) => super::chunk(out, at, tsn, chunk),
-        Sent::Nothing => lines::none(out, at),
-        Sent::Refused(n) => lines::refusal(out, at, n),
+        Sent::Yielded(tsn, chunk) => super::chunk(rt, out, at, tsn, chunk),
+        Sent::Nothing => lines::none(rt, out, at),
+        Sent::Refused(n) => lines::refusal(rt, out, at, n),
     }
 }
 
-fn expired(out: &mut [u8], at: usize, answer: Expired) -> usize {
+fn expired(rt: &impl Print, out: &mut [u8], at: usize, answer: Expired) -> usize {
     match answer {
         Expired::Message {
             stream,
@@ -53,14 +53,14 @@ fn expired(out: &mut [u8], at: usize, answer: Expired) -> usize {
             bytes,
         } => {
             let values = [stream as u64, unordered as u64, bytes];
-            lines::numbers(out, at, b"sid= u= bytes=\n", &values)
+            lines::numbers(rt, out, at, b"sid= u= bytes=\n", &values)
         }
-        Expired::Nothing => lines::none(out, at),
-        Expired::Refused(n) => lines::refusal(out, at, n),
+        Expired::Nothing => lines::none(rt, out, at),
+        Expired::Refused(n) => lines::refusal(rt, out, at, n),
     }
 }
 
-fn tail_expired(out: &mut [u8], at: usize, answer: TailExpired) -> usize {
+fn tail_expired(rt: &impl Print, out: &mut [u8], at: usize, answer: TailExpired) -> usize {
     match answer {
         TailExpired::Message {
             stream,
@@ -68,39 +68,39 @@ fn tail_expired(out: &mut [u8], at: usize, answer: TailExpired) -> usize {
             bytes,
         } => {
             let values = [stream as u64, number, bytes];
-            lines::numbers(out, at, b"sid= msg= bytes=\n", &values)
+            lines::numbers(rt, out, at, b"sid= msg= bytes=\n", &values)
         }
-        TailExpired::Nothing => lines::none(out, at),
-        TailExpired::Refused(n) => lines::refusal(out, at, n),
+        TailExpired::Nothing => lines::none(rt, out, at),
+        TailExpired::Refused(n) => lines::refusal(rt, out, at, n),
     }
 }
 
-fn abandoned(out: &mut [u8], at: usize, answer: Abandoned) -> usize {
+fn abandoned(rt: &impl Print, out: &mut [u8], at: usize, answer: Abandoned) -> usize {
     match answer {
         Abandoned::Message { stream, bytes } => {
             let values = [stream as u64, bytes];
-            lines::numbers(out, at, b"sid= bytes=\n", &values)
+            lines::numbers(rt, out, at, b"sid= bytes=\n", &values)
         }
-        Abandoned::Nothing => lines::none(out, at),
+        Abandoned::Nothing => lines::none(rt, out, at),
     }
 }
 
-fn found(out: &mut [u8], at: usize, tsn: u32, answer: Found) -> usize {
+fn found(rt: &impl Print, out: &mut [u8], at: usize, tsn: u32, answer: Found) -> usize {
     match answer {
-        Found::One(chunk) => super::chunk(out, at, tsn, chunk),
-        Found::Nothing => lines::none(out, at),
+        Found::One(chunk) => super::chunk(rt, out, at, tsn, chunk),
+        Found::Nothing => lines::none(rt, out, at),
     }
 }
 
-fn number(out: &mut [u8], at: usize, n: u64) -> usize {
-    let p1 = lines::number(out, at, b"", n);
-    lines::line(out, p1)
+fn number(rt: &impl Print, out: &mut [u8], at: usize, n: u64) -> usize {
+    let p1 = lines::number(rt, out, at, b"", n);
+    lines::line(rt, out, p1)
 }
 
-fn earliest(out: &mut [u8], at: usize, answer: Earliest) -> usize {
+fn earliest(rt: &impl Print, out: &mut [u8], at: usize, answer: Earliest) -> usize {
     match answer {
-        Earliest::Tsn(tsn) => number(out, at, tsn as u64),
-        Earliest::Nothing => lines::none(out, at),
+        Earliest::Tsn(tsn) => number(rt, out, at, tsn as u64),
+        Earliest::Nothing => lines::none(rt, out, at),
     }
 }
 
@@ -129,27 +129,27 @@ fn asked_tsn(query: Query) -> u64 {
 }
 
 // What stands in front of a number that a call answers.
-fn labelled(out: &mut [u8], at: usize, call: Call) -> usize {
+fn labelled(rt: &impl Print, out: &mut [u8], at: usize, call: Call) -> usize {
     if let Call::Acknowledge { tsn: _ } = call {
-        return lines::text(out, at, b"bytes=");
+        return lines::text(rt, out, at, b"bytes=");
     }
     at
 }
 
-fn said(out: &mut [u8], at: usize, given: u64, answer: Answer) -> usize {
+fn said(rt: &impl Print, out: &mut [u8], at: usize, given: u64, answer: Answer) -> usize {
     match answer {
-        Answer::ToDo(says) => done(out, at, says),
-        Answer::ToWrite(says) => written(out, at, given, says),
-        Answer::ToRelease(says) => released(out, at, says),
-        Answer::ToSend(says) => sent(out, at, says),
-        Answer::ToExpire(says) => expired(out, at, says),
-        Answer::ToExpireTail(says) => tail_expired(out, at, says),
-        Answer::ToAbandon(says) => abandoned(out, at, says),
-        Answer::ToFind(says) => found(out, at, (given % 4_294_967_296) as u32, says),
-        Answer::ToSeek(says) => earliest(out, at, says),
-        Answer::Number(n) => number(out, at, n),
-        Answer::YesNo(yes) => number(out, at, yes as u64),
-        _ => lines::bad(out, at),
+        Answer::ToDo(says) => done(rt, out, at, says),
+        Answer::ToWrite(says) => written(rt, out, at, given, says),
+        Answer::ToRelease(says) => released(rt, out, at, says),
+        Answer::ToSend(says) => sent(rt, out, at, says),
+        Answer::ToExpire(says) => expired(rt, out, at, says),
+        Answer::ToExpireTail(says) => tail_expired(rt, out, at, says),
+        Answer::ToAbandon(says) => abandoned(rt, out, at, says),
+        Answer::ToFind(says) => found(rt, out, at, (given % 4_294_967_296) as u32, says),
+        Answer::ToSeek(says) => earliest(rt, out, at, says),
+        Answer::Number(n) => number(rt, out, at, n),
+        Answer::YesNo(yes) => number(rt, out, at, yes as u64),
+        _ => lines::bad(rt, out, at),
     }
 }
 
@@ -159,24 +159,25 @@ fn wide(tsn: u32) -> u64 {
     tsn as u64
 }
 
-fn tsn_at(out: &mut [u8], at: usize, list: &[u32], i: usize) -> usize {
+fn tsn_at(rt: &impl Print, out: &mut [u8], at: usize, list: &[u32], i: usize) -> usize {
     if i < list.len() {
-        return lines::number(out, at, b" ", wide(list[i]));
+        return lines::number(rt, out, at, b" ", wide(list[i]));
     }
     at
 }
 
-fn tsns(out: &mut [u8], at: usize, list: &[u32], count: usize) -> usize {
+fn tsns(rt: &impl Print, out: &mut [u8], at: usize, list: &[u32], count: usize) -> usize {
     let mut place = at;
     let mut i = 0;
     while i < count {
-        place = tsn_at(out, place, list, i);
+        place = tsn_at(rt, out, place, list, i);
         i += 1;
     }
     place
 }
 
 fn listed(
+    rt: &impl Print,
     h: Head,
     cells: &[u64],
     out: &mut [u8],
@@ -188,11 +189,11 @@ fn listed(
     let answer = found.answer;
     match answer {
         Listed::Count(count) => {
-            let place = lines::number(out, at, b"n=", count as u64);
-            let behind = tsns(out, place, list, count);
-            lines::line(out, behind)
+            let place = lines::number(rt, out, at, b"n=", count as u64);
+            let behind = tsns(rt, out, place, list, count);
+            lines::line(rt, out, behind)
         }
-        Listed::Refused(n) => lines::refusal(out, at, n),
+        Listed::Refused(n) => lines::refusal(rt, out, at, n),
     }
 }
 
@@ -207,6 +208,7 @@ fn list_room(room: u64) -> usize
 }
 
 pub fn expired_within(
+    rt: &impl Print,
     h: Head,
     cells: &[u64],
     out: &mut [u8],
@@ -216,17 +218,24 @@ pub fn expired_within(
 ) -> usize {
     let mut list = [0u32; 256];
     let size = list_room(room);
-    listed(h, cells, out, at, clock, &mut list[0..size])
+    listed(rt, h, cells, out, at, clock, &mut list[0..size])
 }
 
 // ---- one stream, and the sums
 
-pub fn stream(h: Head, cells: &[u64], out: &mut [u8], at: usize, identifier: u16) -> usize {
+pub fn stream(
+    rt: &impl Print,
+    h: Head,
+    cells: &[u64],
+    out: &mut [u8],
+    at: usize,
+    identifier: u16,
+) -> usize {
     let k = sender_head::table_words(cells);
     let place = stream_table::find(h.streams, &cells[0..k], identifier);
     match place {
-        Place::At(_, found) => super::stream(out, at, found),
-        Place::Nothing => lines::refusal(out, at, limits::NOT_OPEN),
+        Place::At(_, found) => super::stream(rt, out, at, found),
+        Place::Nothing => lines::refusal(rt, out, at, limits::NOT_OPEN),
     }
 }
 
@@ -248,6 +257,7 @@ fn with_buffered(old: Stream, amount: u32) -> Stream {
 }
 
 pub fn set_buffered(
+    rt: &impl Print,
     h: Head,
     cells: &mut [u64],
     out: &mut [u8],
@@ -265,24 +275,31 @@ pub fn set_buffered(
                 place,
                 with_buffered(old, amount),
             );
-            lines::done(out, at)
+            lines::done(rt, out, at)
         }
-        Place::Nothing => lines::refusal(out, at, limits::NOT_OPEN),
+        Place::Nothing => lines::refusal(rt, out, at, limits::NOT_OPEN),
     }
 }
 
-pub fn counts(h: Head, cells: &[u64], out: &mut [u8], at: usize, pattern: &[u8]) -> usize {
+pub fn counts(
+    rt: &impl Print,
+    h: Head,
+    cells: &[u64],
+    out: &mut [u8],
+    at: usize,
+    pattern: &[u8],
+) -> usize {
     let values = [
         sender_asks::pending_length(h, cells) as u64,
         sender_asks::pending_bytes(h),
         sender_asks::inflight_length(h, cells) as u64,
         sender_asks::inflight_bytes(h),
     ];
-    lines::numbers(out, at, pattern, &values)
+    lines::numbers(rt, out, at, pattern, &values)
 }
 
 // What a call answered.
-pub fn answered(out: &mut [u8], at: usize, call: Call, answer: Answer) -> usize {
-    let place = labelled(out, at, call);
-    said(out, place, repeated(call), answer)
+pub fn answered(rt: &impl Print, out: &mut [u8], at: usize, call: Call, answer: Answer) -> usize {
+    let place = labelled(rt, out, at, call);
+    said(rt, out, place, repeated(call), answer)
 }

@@ -5,29 +5,29 @@ use ring::Ring;
 use sender_head::Head;
 
 // The number of the message whose rest is pending, or a dash.
-fn under_way(h: Head, cells: &[u64], out: &mut [u8], at: usize) -> usize {
+fn under_way(rt: &impl Print, h: Head, cells: &[u64], out: &mut [u8], at: usize) -> usize {
     if h.queue.pending.selected != 0 {
         let front = sender_asks::peek_pending(h, cells);
         if let Found::One(chunk) = front {
-            return lines::number(out, at, b" underway=", chunk.message.number);
+            return lines::number(rt, out, at, b" underway=", chunk.message.number);
         }
     }
-    lines::text(out, at, b" underway=-")
+    lines::text(rt, out, at, b" underway=-")
 }
 
-fn stream_at(out: &mut [u8], at: usize, table: &[u64], i: usize) -> usize {
-    let place = lines::text(out, at, b"stream ");
-    super::stream(out, place, stream_table::slot::load(table, i))
+fn stream_at(rt: &impl Print, out: &mut [u8], at: usize, table: &[u64], i: usize) -> usize {
+    let place = lines::text(rt, out, at, b"stream ");
+    super::stream(rt, out, place, stream_table::slot::load(table, i))
 }
 
-fn streams(h: Head, cells: &[u64], out: &mut [u8], at: usize) -> usize {
+fn streams(rt: &impl Print, h: Head, cells: &[u64], out: &mut [u8], at: usize) -> usize {
     let k = sender_head::table_words(cells);
     let table = &cells[0..k];
     let count = stream_table::len(h.streams, table);
     let mut place = at;
     let mut i = 0;
     while i < count {
-        place = stream_at(out, place, table, i);
+        place = stream_at(rt, out, place, table, i);
         i += 1;
     }
     place
@@ -35,6 +35,7 @@ fn streams(h: Head, cells: &[u64], out: &mut [u8], at: usize) -> usize {
 
 // The chunks of a ring, front to back. Of the flight the first has the TSN `first`, and each next one more; pending chunks have none.
 fn chunks(
+    rt: &impl Print,
     ring: Ring,
     cells: &[u64],
     out: &mut [u8],
@@ -48,23 +49,33 @@ fn chunks(
     let mut place = at;
     let mut i = 0;
     while i < count {
-        place = lines::text(out, place, label);
-        place = super::chunk(out, place, tsn, ring::nth(ring, cells, i));
+        place = lines::text(rt, out, place, label);
+        place = super::chunk(rt, out, place, tsn, ring::nth(ring, cells, i));
         tsn = std::num::wrapping_add_u32(tsn, gap);
         i += 1;
     }
     place
 }
 
-fn rings(h: Head, cells: &[u64], out: &mut [u8], at: usize) -> usize {
+fn rings(rt: &impl Print, h: Head, cells: &[u64], out: &mut [u8], at: usize) -> usize {
     let table = sender_head::table_words(cells);
     let n = cells.len();
     let rest = &cells[table..n];
     let k = rest.len() / 24 * 8;
     let pending = h.queue.pending;
     let flight = h.queue.inflight;
-    let p1 = chunks(pending.unordered, &rest[0..k], out, at, b"pending-u ", 0, 0);
+    let p1 = chunks(
+        rt,
+        pending.unordered,
+        &rest[0..k],
+        out,
+        at,
+        b"pending-u ",
+        0,
+        0,
+    );
     let p2 = chunks(
+        rt,
         pending.ordered,
         &rest[k..k + k],
         out,
@@ -74,6 +85,7 @@ fn rings(h: Head, cells: &[u64], out: &mut [u8], at: usize) -> usize {
         0,
     );
     chunks(
+        rt,
         flight.ring,
         &rest[k + k..k + k + k],
         out,
@@ -84,19 +96,25 @@ fn rings(h: Head, cells: &[u64], out: &mut [u8], at: usize) -> usize {
     )
 }
 
-fn numbers(h: Head, cells: &[u64], out: &mut [u8], at: usize) -> usize {
+fn numbers(rt: &impl Print, h: Head, cells: &[u64], out: &mut [u8], at: usize) -> usize {
     let values = [
         sender_asks::next_tsn(h, cells) as u64,
         sender_asks::next_message(h),
         h.queue.next_unstarted_message_id,
     ];
-    let place = lines::numbers(out, at, b"sender next_tsn= next_msg= next_unseen=", &values);
-    under_way(h, cells, out, place)
+    let place = lines::numbers(
+        rt,
+        out,
+        at,
+        b"sender next_tsn= next_msg= next_unseen=",
+        &values,
+    );
+    under_way(rt, h, cells, out, place)
 }
 
-pub fn whole(h: Head, cells: &[u64], out: &mut [u8], at: usize) -> usize {
-    let p1 = numbers(h, cells, out, at);
-    let p2 = super::sender::counts(h, cells, out, p1, b" plen= pbytes= flen= fbytes=\n");
-    let p3 = streams(h, cells, out, p2);
-    rings(h, cells, out, p3)
+pub fn whole(rt: &impl Print, h: Head, cells: &[u64], out: &mut [u8], at: usize) -> usize {
+    let p1 = numbers(rt, h, cells, out, at);
+    let p2 = super::sender::counts(rt, h, cells, out, p1, b" plen= pbytes= flen= fbytes=\n");
+    let p3 = streams(rt, h, cells, out, p2);
+    rings(rt, h, cells, out, p3)
 }

@@ -7,7 +7,7 @@ use mathlib.Core.List.{List, [], ◌∷◌, ◌++◌}
 use Prim.Native.Nat.{ℕ, zero, suc, ◌+◌, ◌*◌, ◌/◌, ◌≤◌, ◌<◌, min}
 use native.Mathlib.Omega.{arith}
 use Rattle.std.proofs.Math.ListN.{set, drop}
-use Rattle.model.specs.Lists.{if◌then◌else◌}
+use Rattle.model.specs.Lists.{when◌then◌else◌}
 use Rattle.rows.specs.View.{lt_or_ge}
 use Rattle.std.proofs.Math.Seq.{drop-length, take-set-lt, set_out}
 use Rattle.std.proofs.lemmas.List.{take-set-le, drop-set-add, set-get_or}
@@ -157,13 +157,13 @@ slots_sets f i ws us h l =
 
 -- the first words of slot i are others; where there is no such slot, nothing is
 abbrev pub written : (i : ℕ) (us ws : List ℕ) → List ℕ
-written i us ws = if ltb i (room_of ws) then sets ws (i * 8) us else ws
+written i us ws = when ltb i (room_of ws) then sets ws (i * 8) us else ws
 
 pub written_in : (i : ℕ) (us ws : List ℕ) → i < room_of ws → sets ws (i * 8) us ≡ written i us ws
-written_in i us ws h = sym (ap (λ (b : Bool). if b then sets ws (i * 8) us else ws) (lt-ltb i (room_of ws) h))
+written_in i us ws h = sym (ap (λ (b : Bool). when b then sets ws (i * 8) us else ws) (lt-ltb i (room_of ws) h))
 
 pub written_past : (i : ℕ) (us ws : List ℕ) → room_of ws ≤ i → ws ≡ written i us ws
-written_past i us ws h = sym (ap (λ (b : Bool). if b then sets ws (i * 8) us else ws) (le-ltb i (room_of ws) h))
+written_past i us ws h = sym (ap (λ (b : Bool). when b then sets ws (i * 8) us else ws) (le-ltb i (room_of ws) h))
 
 pub slots_written : {A : Type 0} (f : List ℕ → A) (i : ℕ) (us ws : List ℕ) → length us ≤ 8
     → slots_of f (written i us ws) ≡ set (slots_of f ws) i (f (us ++ drop (length us) (words_of i ws)))

@@ -7,7 +7,7 @@ use mathlib.Core.List.{List}
 use Rattle.std.proofs.Math.ListN.{get_or}
 use Rattle.limits.specs.declared.Moment.TheVariants.{At}
 use Rattle.model.specs.declared.Chunk.{Chunk}
-use Rattle.model.specs.Lists.{if◌then◌else◌, adjust}
+use Rattle.model.specs.Lists.{when◌then◌else◌, adjust}
 use Rattle.model.specs.State.{is_of}
 use Rattle.model.specs.Rings.{with_message, renewed, has_lifetime, started, ssn_before, lowered, marked, given_up}
 use Rattle.model.specs.Flight.{acknowledged, to_retransmit}
@@ -22,25 +22,25 @@ use Rattle.chunk_slot.specs.Chunks.{chunk_from, chunk_in, chunks, blank_chunk, c
 
 -- the bytes that a chunk holds of a message
 abbrev pub held_of : (number : ℕ) → Chunk → ℕ
-held_of n c = if is_of n c then c.length else 0
+held_of n c = when is_of n c then c.length else 0
 
 -- where a chunk is of another message or stream, or has no lifetime to start, it stays
 pub held_other : (n : ℕ) (c : Chunk) → eqb c.message.number n ≡ false → held_of n c ≡ 0
-held_other n c e = ap (λ (b : Bool). if b then c.length else 0) e
+held_other n c e = ap (λ (b : Bool). when b then c.length else 0) e
 
 pub held_own : (n : ℕ) (c : Chunk) → eqb c.message.number n ≡ true → held_of n c ≡ c.length
-held_own n c e = ap (λ (b : Bool). if b then c.length else 0) e
+held_own n c e = ap (λ (b : Bool). when b then c.length else 0) e
 
 pub given_other : (n : ℕ) (c : Chunk) → eqb c.message.number n ≡ false → given_up n c ≡ c
-given_other n c e = ap (λ (b : Bool). if b then marked 0 c.acked true false c else c) e
+given_other n c e = ap (λ (b : Bool). when b then marked 0 c.acked true false c else c) e
 
 pub lowered_other : (id : ℕ) (c : Chunk) → eqb c.message.stream id ≡ false → lowered id c ≡ c
 lowered_other id c e =
-    ap (λ (b : Bool). if b then with_message (renewed (ssn_before c.message.ssn) c.message.deadline c.message) c else c) e
+    ap (λ (b : Bool). when b then with_message (renewed (ssn_before c.message.ssn) c.message.deadline c.message) c else c) e
 
 pub started_not : (time k : ℕ) (c : Chunk) → (leb k c.message.number && has_lifetime c.message) ≡ false → started time k c ≡ c
 started_not time k c e =
-    ap (λ (b : Bool). with_message (if b then renewed c.message.ssn (At (time + c.message.reliability.value)) c.message else c.message) c) e
+    ap (λ (b : Bool). with_message (when b then renewed c.message.ssn (At (time + c.message.reliability.value)) c.message else c.message) c) e
 
 -- and where it has one
 lifetime : (k number kind protocol : ℕ) → k ≤ number → kind ≡ 2 → (protocol ≡ 50 → ⊥) → (leb k number && (eqb kind 2 && not (eqb protocol 50))) ≡ true
@@ -80,7 +80,7 @@ module _ (w : List ℕ) (h : length w ≡ 8) where
   give_in n m q e =
       empty_in m
       ∙ ap (among (get_or w 1 0) 0 (high_of (get_or w 5 0))) e
-      ∙ sym (ap (λ (b : Bool). if b then marked 0 (chunk_in w).acked true false (chunk_in w) else chunk_in w) (eq-eqb (get_or w 0 0) n q))
+      ∙ sym (ap (λ (b : Bool). when b then marked 0 (chunk_in w).acked true false (chunk_in w) else chunk_in w) (eq-eqb (get_or w 0 0) n q))
 
   lower_in : (id m : ℕ) → (marks_in (get_or w 6 0)).stream ≡ id → marks_in m ≡ one_lower (marks_in (get_or w 6 0)) → chunk_in (set w 6 m) ≡ lowered id (chunk_in w)
   unfolding chunk_from
@@ -88,7 +88,7 @@ module _ (w : List ℕ) (h : length w ≡ 8) where
       let c = chunk_in w in
       ap (λ (r : List ℕ). chunk_in (set r 6 m)) (eight w h)
       ∙ ap (among (get_or w 1 0) (low_of (get_or w 5 0)) (high_of (get_or w 5 0))) e
-      ∙ sym (ap (λ (b : Bool). if b then with_message (renewed (ssn_before c.message.ssn) c.message.deadline c.message) c else c) (eq-eqb (marks_in (get_or w 6 0)).stream id q))
+      ∙ sym (ap (λ (b : Bool). when b then with_message (renewed (ssn_before c.message.ssn) c.message.deadline c.message) c else c) (eq-eqb (marks_in (get_or w 6 0)).stream id q))
 
   start_in : (time k m : ℕ) → (leb k (get_or w 0 0) && has_lifetime (chunk_in w).message) ≡ true → marks_in m ≡ with_deadline (marks_in (get_or w 6 0))
       → chunk_in (set (set w 1 (time + high_of (get_or w 4 0))) 6 m) ≡ started time k (chunk_in w)
@@ -97,7 +97,7 @@ module _ (w : List ℕ) (h : length w ≡ 8) where
       let c = chunk_in w in
       ap (λ (r : List ℕ). chunk_in (set (set r 1 (time + high_of (get_or w 4 0))) 6 m)) (eight w h)
       ∙ ap (among (time + high_of (get_or w 4 0)) (low_of (get_or w 5 0)) (high_of (get_or w 5 0))) e
-      ∙ sym (ap (λ (b : Bool). with_message (if b then renewed c.message.ssn (At (time + c.message.reliability.value)) c.message else c.message) c) q)
+      ∙ sym (ap (λ (b : Bool). with_message (when b then renewed c.message.ssn (At (time + c.message.reliability.value)) c.message else c.message) c) q)
 
 -- ---- a slot that is not there
 
@@ -107,7 +107,7 @@ adjust_past f i ws h = sym (adjust_out f i (chunks ws) blank_chunk (slots_past c
 pub held_past : (n i : ℕ) (ws : List ℕ) → room_of ws ≤ i → 0 ≡ held_of n (get_or (chunks ws) i blank_chunk)
 held_past n i ws h = sym (ap (held_of n) (chunk_past i ws h) ∙ none (eqb 0 n))
   where
-    none : (b : Bool) → ◌≡◌ {A = ℕ} (if b then 0 else 0) 0
+    none : (b : Bool) → ◌≡◌ {A = ℕ} (when b then 0 else 0) 0
     none true = refl
     none false = refl
 

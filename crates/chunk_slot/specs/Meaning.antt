@@ -1,12 +1,12 @@
 -- The chunk that a slot's words are. Shut: who moves words from slot to slot goes by the chunk.
-use Rattle.std.specs.Prelude.{◌≡◌, refl, List, [], ◌∷◌, ℕ, ◌+◌, ◌≤◌, ◌<◌, get_or, set}
-use Rattle.std.proofs.Common.{sym, ◌∙◌}
+use Rattle.std.specs.Prelude.{◌≡◌, refl, List, [], ◌∷◌, ℕ, ◌+◌, set}
+use Rattle.std.proofs.Common.{◌∙◌}
 use Rattle.std.proofs.Math.Path.{ap}
 use native.Mathlib.Omega.{arith}
 use Rattle.model.specs.declared.Chunk.{Chunk}
 use Rattle.model.specs.declared.Found.{Found}
 use Rattle.model.specs.Rings.{sent_at}
-use Rattle.cells.specs.Slots.{room_of, written, slots_written}
+use Rattle.cells.specs.Slots.{written, slots_written}
 use Rattle.cells.specs.Words.{low_of, high_of, bit_at}
 use Rattle.chunk_slot.specs.declared.Words.{Words}
 use Rattle.chunk_slot.specs.declared.FoundWords.{FoundWords}

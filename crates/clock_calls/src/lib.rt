@@ -75,14 +75,14 @@ pub struct Estimator {
 
 // ---- the timers
 
-fn changed(out: &mut [u8], at: usize, answer: Answer) -> usize {
+fn changed(rt: &impl Print, out: &mut [u8], at: usize, answer: Answer) -> usize {
     match answer {
-        Answer::Done => lines::done(out, at),
-        Answer::Refused(n) => lines::refusal(out, at, n),
+        Answer::Done => lines::done(rt, out, at),
+        Answer::Refused(n) => lines::refusal(rt, out, at, n),
     }
 }
 
-fn told(out: &mut [u8], at: usize, answer: Expiry) -> usize {
+fn told(rt: &impl Print, out: &mut [u8], at: usize, answer: Expiry) -> usize {
     match answer {
         Expiry::Told {
             expired,
@@ -90,15 +90,15 @@ fn told(out: &mut [u8], at: usize, answer: Expiry) -> usize {
             count,
         } => {
             let values = [expired as u64, failure as u64, count as u64];
-            lines::numbers(out, at, b"expired= failure= count=\n", &values)
+            lines::numbers(rt, out, at, b"expired= failure= count=\n", &values)
         }
-        Expiry::Refused(n) => lines::refusal(out, at, n),
+        Expiry::Refused(n) => lines::refusal(rt, out, at, n),
     }
 }
 
-fn deadline(out: &mut [u8], at: usize, time: Moment) -> usize {
-    let place = lines::moment(out, at, b"", time);
-    lines::line(out, place)
+fn deadline(rt: &impl Print, out: &mut [u8], at: usize, time: Moment) -> usize {
+    let place = lines::moment(rt, out, at, b"", time);
+    lines::line(rt, out, place)
 }
 
 // The poke of the script: the count alone changes.
@@ -170,142 +170,185 @@ fn changed_by(old: TimerTable, call: TimerCall) -> Changed {
     }
 }
 
-fn checked(old: TimerTable, out: &mut [u8], at: usize, timer: Timer, clock: u64) -> Timers {
+fn checked(
+    rt: &impl Print,
+    old: TimerTable,
+    out: &mut [u8],
+    at: usize,
+    timer: Timer,
+    clock: u64,
+) -> Timers {
     let after = old.is_expired(timer, clock);
     let answer = after.answer;
     let table = after.table;
     Timers {
         table: table,
-        at: told(out, at, answer),
+        at: told(rt, out, at, answer),
     }
 }
 
-fn after_change(old: TimerTable, out: &mut [u8], at: usize, call: TimerCall) -> Timers {
+fn after_change(
+    rt: &impl Print,
+    old: TimerTable,
+    out: &mut [u8],
+    at: usize,
+    call: TimerCall,
+) -> Timers {
     let after = changed_by(old, call);
     let answer = after.answer;
     let table = after.table;
     Timers {
         table: table,
-        at: changed(out, at, answer),
+        at: changed(rt, out, at, answer),
     }
 }
 
-pub fn clock_call(old: TimerTable, out: &mut [u8], at: usize, call: TimerCall) -> Timers {
+pub fn clock_call(
+    rt: &impl Print,
+    old: TimerTable,
+    out: &mut [u8],
+    at: usize,
+    call: TimerCall,
+) -> Timers {
     match call {
         TimerCall::Get { timer } => Timers {
             table: old,
-            at: deadline(out, at, old.get(timer)),
+            at: deadline(rt, out, at, old.get(timer)),
         },
         TimerCall::NextTimeout => Timers {
             table: old,
-            at: deadline(out, at, old.next_timeout()),
+            at: deadline(rt, out, at, old.next_timeout()),
         },
-        TimerCall::IsExpired { timer, clock } => checked(old, out, at, timer, clock),
-        _ => after_change(old, out, at, call),
+        TimerCall::IsExpired { timer, clock } => checked(rt, old, out, at, timer, clock),
+        _ => after_change(rt, old, out, at, call),
     }
 }
 
 // ---- the estimator
 
-fn made_estimator(old: RtoManager, out: &mut [u8], at: usize, made: Made) -> Estimator {
+fn made_estimator(
+    rt: &impl Print,
+    old: RtoManager,
+    out: &mut [u8],
+    at: usize,
+    made: Made,
+) -> Estimator {
     match made {
         Made::Ready(manager) => Estimator {
             manager: manager,
-            at: lines::done(out, at),
+            at: lines::done(rt, out, at),
         },
         Made::Refused(n) => Estimator {
             manager: old,
-            at: lines::refusal(out, at, n),
+            at: lines::refusal(rt, out, at, n),
         },
     }
 }
 
-fn measured(old: RtoManager, out: &mut [u8], at: usize, answer: Measured) -> Estimator {
+fn measured(
+    rt: &impl Print,
+    old: RtoManager,
+    out: &mut [u8],
+    at: usize,
+    answer: Measured,
+) -> Estimator {
     match answer {
         Measured::Srtt(srtt, manager) => {
             let values = [srtt];
             Estimator {
                 manager: manager,
-                at: lines::numbers(out, at, b"srtt=\n", &values),
+                at: lines::numbers(rt, out, at, b"srtt=\n", &values),
             }
         }
         Measured::Refused(n) => Estimator {
             manager: old,
-            at: lines::refusal(out, at, n),
+            at: lines::refusal(rt, out, at, n),
         },
     }
 }
 
-fn set_estimator(old: RtoManager, out: &mut [u8], at: usize, answer: Set) -> Estimator {
+fn set_estimator(
+    rt: &impl Print,
+    old: RtoManager,
+    out: &mut [u8],
+    at: usize,
+    answer: Set,
+) -> Estimator {
     match answer {
         Set::Kept(manager) => Estimator {
             manager: manager,
-            at: lines::done(out, at),
+            at: lines::done(rt, out, at),
         },
         Set::Refused(n) => Estimator {
             manager: old,
-            at: lines::refusal(out, at, n),
+            at: lines::refusal(rt, out, at, n),
         },
     }
 }
 
-pub fn estimate_call(old: RtoManager, out: &mut [u8], at: usize, call: RtoCall) -> Estimator {
+pub fn estimate_call(
+    rt: &impl Print,
+    old: RtoManager,
+    out: &mut [u8],
+    at: usize,
+    call: RtoCall,
+) -> Estimator {
     match call {
         RtoCall::Make {
             initial,
             least,
             most,
-        } => made_estimator(old, out, at, RtoManager::new(initial, least, most)),
-        RtoCall::Measure { rtt } => measured(old, out, at, old.set_new_rtt(rtt)),
+        } => made_estimator(rt, old, out, at, RtoManager::new(initial, least, most)),
+        RtoCall::Measure { rtt } => measured(rt, old, out, at, old.set_new_rtt(rtt)),
         RtoCall::Reset => Estimator {
             manager: old.reset(),
-            at: lines::done(out, at),
+            at: lines::done(rt, out, at),
         },
-        RtoCall::Set { rto, kept } => set_estimator(old, out, at, old.set_rto(rto, kept)),
+        RtoCall::Set { rto, kept } => set_estimator(rt, old, out, at, old.set_rto(rto, kept)),
         RtoCall::Get => Estimator {
             manager: old,
-            at: estimate(out, at, old),
+            at: estimate(rt, out, at, old),
         },
     }
 }
 
 // ---- the whole state
 
-fn maximum(out: &mut [u8], at: usize, most: Maximum) -> usize {
+fn maximum(rt: &impl Print, out: &mut [u8], at: usize, most: Maximum) -> usize {
     match most {
-        Maximum::Unlimited => lines::text(out, at, b" max=-"),
-        Maximum::Of(n) => lines::number(out, at, b" max=", n),
+        Maximum::Unlimited => lines::text(rt, out, at, b" max=-"),
+        Maximum::Of(n) => lines::number(rt, out, at, b" max=", n),
     }
 }
 
-fn entry(out: &mut [u8], at: usize, name: &[u8], entry: Entry) -> usize {
+fn entry(rt: &impl Print, out: &mut [u8], at: usize, name: &[u8], entry: Entry) -> usize {
     let deadline = entry.deadline;
     let most = entry.maximum;
-    let p1 = lines::text(out, at, name);
-    let p2 = lines::moment(out, p1, b" deadline=", deadline);
-    let p3 = lines::number(out, p2, b" count=", entry.retrans as u64);
-    let p4 = maximum(out, p3, most);
+    let p1 = lines::text(rt, out, at, name);
+    let p2 = lines::moment(rt, out, p1, b" deadline=", deadline);
+    let p3 = lines::number(rt, out, p2, b" count=", entry.retrans as u64);
+    let p4 = maximum(rt, out, p3, most);
     let values = [entry.suppressed as u64];
-    lines::numbers(out, p4, b" suppressed=\n", &values)
+    lines::numbers(rt, out, p4, b" suppressed=\n", &values)
 }
 
-fn first_three(table: TimerTable, out: &mut [u8], at: usize) -> usize {
-    let p1 = entry(out, at, b"timer 0 T1Init", table.entries[0]);
-    let p2 = entry(out, p1, b"timer 1 T1Cookie", table.entries[1]);
-    entry(out, p2, b"timer 2 T2Shutdown", table.entries[2])
+fn first_three(rt: &impl Print, table: TimerTable, out: &mut [u8], at: usize) -> usize {
+    let p1 = entry(rt, out, at, b"timer 0 T1Init", table.entries[0]);
+    let p2 = entry(rt, out, p1, b"timer 1 T1Cookie", table.entries[1]);
+    entry(rt, out, p2, b"timer 2 T2Shutdown", table.entries[2])
 }
 
-fn last_three(table: TimerTable, out: &mut [u8], at: usize) -> usize {
-    let p1 = entry(out, at, b"timer 3 T3RTX", table.entries[3]);
-    let p2 = entry(out, p1, b"timer 4 Reconfig", table.entries[4]);
-    entry(out, p2, b"timer 5 Ack", table.entries[5])
+fn last_three(rt: &impl Print, table: TimerTable, out: &mut [u8], at: usize) -> usize {
+    let p1 = entry(rt, out, at, b"timer 3 T3RTX", table.entries[3]);
+    let p2 = entry(rt, out, p1, b"timer 4 Reconfig", table.entries[4]);
+    entry(rt, out, p2, b"timer 5 Ack", table.entries[5])
 }
 
-pub fn timers_state(table: TimerTable, out: &mut [u8], at: usize) -> usize {
+pub fn timers_state(rt: &impl Print, table: TimerTable, out: &mut [u8], at: usize) -> usize {
     let values = [table.rto_max as u64];
-    let p1 = lines::numbers(out, at, b"timers rto_max=\n", &values);
-    let p2 = first_three(table, out, p1);
-    last_three(table, out, p2)
+    let p1 = lines::numbers(rt, out, at, b"timers rto_max=\n", &values);
+    let p2 = first_three(rt, table, out, p1);
+    last_three(rt, table, out, p2)
 }
 
 // The bits of a float; the estimator's spread is never a NaN, which has none.
@@ -316,24 +359,24 @@ fn bits(value: f64) -> u64 {
     0
 }
 
-fn spread(out: &mut [u8], at: usize, rttvar: f64) -> usize {
-    let place = lines::text(out, at, b" rttvar=");
-    lines::hexadecimal(out, place, bits(rttvar), 16)
+fn spread(rt: &impl Print, out: &mut [u8], at: usize, rttvar: f64) -> usize {
+    let place = lines::text(rt, out, at, b" rttvar=");
+    lines::hexadecimal(rt, out, place, bits(rttvar), 16)
 }
 
-fn bounds(out: &mut [u8], at: usize, manager: RtoManager) -> usize {
+fn bounds(rt: &impl Print, out: &mut [u8], at: usize, manager: RtoManager) -> usize {
     let values = [
         manager.no_update as u64,
         manager.rto_initial,
         manager.rto_min,
         manager.rto_max,
     ];
-    lines::numbers(out, at, b" no_update= initial= min= max=\n", &values)
+    lines::numbers(rt, out, at, b" no_update= initial= min= max=\n", &values)
 }
 
-pub fn estimate(out: &mut [u8], at: usize, manager: RtoManager) -> usize {
+pub fn estimate(rt: &impl Print, out: &mut [u8], at: usize, manager: RtoManager) -> usize {
     let values = [manager.rto, manager.srtt];
-    let p1 = lines::numbers(out, at, b"rto= srtt=", &values);
-    let p2 = spread(out, p1, manager.rttvar);
-    bounds(out, p2, manager)
+    let p1 = lines::numbers(rt, out, at, b"rto= srtt=", &values);
+    let p2 = spread(rt, out, p1, manager.rttvar);
+    bounds(rt, out, p2, manager)
 }

@@ -15,7 +15,7 @@ use Rattle.model.specs.declared.Sacked.{Sacked}
 use Rattle.model.specs.declared.Sent.{Sent}
 use Rattle.model.specs.declared.TailExpired.{TailExpired}
 use Rattle.model.specs.declared.Written.{Written}
-use Rattle.model.specs.Lists.{if◌then◌else◌}
+use Rattle.model.specs.Lists.{when◌then◌else◌}
 use Rattle.model.specs.Records.{make_message, make_chunk}
 use Rattle.model.specs.Rings.{tsns_are, refused}
 use Rattle.model.specs.Told.{Told, told_sacked}
@@ -27,7 +27,7 @@ abbrev pub flag : ℕ → Bool
 flag x = eqb x 1
 
 abbrev pub moment : (there when : ℕ) → Moment
-moment there when = if eqb there 1 then Moment.At when else Moment.Absent
+moment there when = when eqb there 1 then Moment.At when else Moment.Absent
 
 abbrev pub message_from : List ℕ → Message
 message_from w =
@@ -53,21 +53,21 @@ plain a rest = back (answered a) rest
 -- by its kind and case
 abbrev pub reply_from : (kind case x y z : ℕ) → List ℕ → Read
 reply_from k c x y z w =
-    if eqb k 1 then plain (to_do (if eqb c 0 then Done.Refused x else Done.Done)) w
-    else if eqb k 2 then plain (to_write (if eqb c 0 then Written.Refused x else Written.Accepted (flag x))) w
-    else if eqb k 3 then plain (to_release (if eqb c 0 then Released.Refused x else Released.Told (flag x))) w
-    else if eqb k 4 then (if eqb c 0 then plain (to_send (Sent.Refused x)) w else if eqb c 1 then plain (to_send (Sent.Yielded x (chunk_from w))) (drop 20 w) else plain (to_send Sent.Nothing) w)
-    else if eqb k 5 then plain (to_expire (if eqb c 0 then Expired.Refused x else if eqb c 1 then Expired.Message x (flag y) z else Expired.Nothing)) w
-    else if eqb k 6 then plain (to_expire_tail (if eqb c 0 then TailExpired.Refused x else if eqb c 1 then TailExpired.Message x y z else TailExpired.Nothing)) w
-    else if eqb k 7 then plain (to_abandon (if eqb c 0 then Abandoned.Nothing else Abandoned.Message x y)) w
-    else if eqb k 8 then (if eqb c 0 then plain (to_find Found.Nothing) w else plain (to_find (Found.One (chunk_from w))) (drop 20 w))
-    else if eqb k 9 then plain (to_seek (if eqb c 0 then Earliest.Nothing else Earliest.Tsn x)) w
-    else if eqb k 10 then plain (to_measure (if eqb c 0 then Amount.Refused x else Amount.Is x)) w
-    else if eqb k 11 then plain (to_count (if eqb c 0 then Counted.Refused x else Counted.Are (record { messages = x; bytes = y }))) w
-    else if eqb k 12 then (if eqb c 0 then plain (to_list (refused x)) w else plain (to_list (tsns_are (take x w))) (drop x w))
-    else if eqb k 13 then plain (number x) w
-    else if eqb k 14 then plain (yes_no (flag x)) w
-    else back (sacked (if eqb c 0 then Sacked.Refused x else if eqb c 1 then Sacked.Released x else Sacked.Stale)) w
+    when eqb k 1 then plain (to_do (when eqb c 0 then Done.Refused x else Done.Done)) w
+    else when eqb k 2 then plain (to_write (when eqb c 0 then Written.Refused x else Written.Accepted (flag x))) w
+    else when eqb k 3 then plain (to_release (when eqb c 0 then Released.Refused x else Released.Told (flag x))) w
+    else when eqb k 4 then (when eqb c 0 then plain (to_send (Sent.Refused x)) w else when eqb c 1 then plain (to_send (Sent.Yielded x (chunk_from w))) (drop 20 w) else plain (to_send Sent.Nothing) w)
+    else when eqb k 5 then plain (to_expire (when eqb c 0 then Expired.Refused x else when eqb c 1 then Expired.Message x (flag y) z else Expired.Nothing)) w
+    else when eqb k 6 then plain (to_expire_tail (when eqb c 0 then TailExpired.Refused x else when eqb c 1 then TailExpired.Message x y z else TailExpired.Nothing)) w
+    else when eqb k 7 then plain (to_abandon (when eqb c 0 then Abandoned.Nothing else Abandoned.Message x y)) w
+    else when eqb k 8 then (when eqb c 0 then plain (to_find Found.Nothing) w else plain (to_find (Found.One (chunk_from w))) (drop 20 w))
+    else when eqb k 9 then plain (to_seek (when eqb c 0 then Earliest.Nothing else Earliest.Tsn x)) w
+    else when eqb k 10 then plain (to_measure (when eqb c 0 then Amount.Refused x else Amount.Is x)) w
+    else when eqb k 11 then plain (to_count (when eqb c 0 then Counted.Refused x else Counted.Are (record { messages = x; bytes = y }))) w
+    else when eqb k 12 then (when eqb c 0 then plain (to_list (refused x)) w else plain (to_list (tsns_are (take x w))) (drop x w))
+    else when eqb k 13 then plain (number x) w
+    else when eqb k 14 then plain (yes_no (flag x)) w
+    else back (sacked (when eqb c 0 then Sacked.Refused x else when eqb c 1 then Sacked.Released x else Sacked.Stale)) w
 
 abbrev pub read_back : List ℕ → Read
 read_back w = reply_from (get_or w 0 0) (get_or w 1 0) (get_or w 2 0) (get_or w 3 0) (get_or w 4 0) (drop 5 w)

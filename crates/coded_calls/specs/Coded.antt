@@ -1,6 +1,6 @@
 -- The table of coded requests: the first word is a row's number, the next four are its arguments.
 use Rattle.std.specs.Prelude.{Bool, List, [], ◌∷◌, ℕ, ◌+◌, ◌-◌, ◌%◌, ◌^◌, ◌≤◌, min, length, get_or, take, drop, ℤ, pos, negsuc, ltb, leb, eqb}
-use Rattle.model.specs.Lists.{if◌then◌else◌}
+use Rattle.model.specs.Lists.{when◌then◌else◌}
 use Rattle.model.specs.Calls as Model
 use Rattle.model.specs.Requests.{Request, Single, ReadSack}
 use Rattle.calls.specs.declared.Call.{Call}
@@ -10,7 +10,7 @@ use Rattle.coded_calls.specs.declared.Coded.{Coded}
 
 -- the number, or as many below -1
 abbrev pub amount_of : ℕ → (negative : Bool) → ℤ
-amount_of x negative = if negative then negsuc (x % 2 ^ 63) else pos (x % 2 ^ 63)
+amount_of x negative = when negative then negsuc (x % 2 ^ 63) else pos (x % 2 ^ 63)
 
 -- rows 0 to 13; from the last on all mark all
 abbrev pub change : (row a b c d : ℕ) → Call
@@ -52,21 +52,21 @@ question row a =
 
 -- rows 0 to 29, as a value of the code; `meant` says which of the model's calls that is
 abbrev pub plain_of : (row a b c d : ℕ) → Call
-plain_of row a b c d = if ltb row 14 then change row a b c d else Call.Ask (question (row - 14) a)
+plain_of row a b c d = when ltb row 14 then change row a b c d else Call.Ask (question (row - 14) a)
 
 -- every row but 31; from row 30 on: what has expired in flight, in a list of so much room, at most 256
 abbrev pub call_in : (row a b c d : ℕ) → Model.Call
 call_in row a b c d =
-    if ltb row 30 then meant (plain_of row a b c d)
+    when ltb row 30 then meant (plain_of row a b c d)
     else Model.Ask (Model.ExpiredInflight a (min b 256))
 
 -- so many of the bytes from a place on; none, where they do not all lie within them
 abbrev pub packet_in : (from count : ℕ) → (bytes : List ℕ) → List ℕ
-packet_in from n bytes = if leb (from + n) (length bytes) then take n (drop from bytes) else []
+packet_in from n bytes = when leb (from + n) (length bytes) then take n (drop from bytes) else []
 
 -- row 31 is a SACK, of a part of the bytes that are lent with the words
 abbrev pub request_in : (row a b c d : ℕ) → (bytes : List ℕ) → Request
-request_in row a b c d bytes = if eqb row 31 then ReadSack (packet_in a b bytes) else Single (call_in row a b c d)
+request_in row a b c d bytes = when eqb row 31 then ReadSack (packet_in a b bytes) else Single (call_in row a b c d)
 
 abbrev pub request_of : (words bytes : List ℕ) → Request
 request_of w bytes = request_in (get_or w 0 0) (get_or w 1 0) (get_or w 2 0) (get_or w 3 0) (get_or w 4 0) bytes

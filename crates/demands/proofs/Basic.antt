@@ -1,9 +1,9 @@
 -- Cases of a test.
 use mathlib.Core.Path.{◌≡◌, refl, sym}
 use mathlib.Core.Bool.{Bool, true, false, ◌&&◌, true≢false}
-use Rattle.model.specs.Lists.{if◌then◌else◌}
+use Rattle.model.specs.Lists.{when◌then◌else◌}
 
-pub if-case {ℓ κ} : {A : Type ℓ} (P : A → Type κ) {x y : A} (b : Bool) → (b ≡ true → P x) → (b ≡ false → P y) → P (if b then x else y)
+pub if-case {ℓ κ} : {A : Type ℓ} (P : A → Type κ) {x y : A} (b : Bool) → (b ≡ true → P x) → (b ≡ false → P y) → P (when b then x else y)
 if-case P true f g = f refl
 if-case P false f g = g refl
 

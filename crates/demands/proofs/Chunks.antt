@@ -17,7 +17,7 @@ use Rattle.model.specs.declared.Lane.{Lane}
 use Rattle.model.specs.declared.Lane.TheVariants.{Unordered, Ordered}
 use Rattle.model.specs.declared.Message.{Message}
 use Rattle.model.specs.declared.Stream.{Stream}
-use Rattle.model.specs.Lists.{if◌then◌else◌}
+use Rattle.model.specs.Lists.{when◌then◌else◌}
 use Rattle.model.specs.State.{Sender, Pending, Numbers, Out, fresh, at, lane_of, in_rings, with_ring, with_pending, with_streams, is_of, place}
 use Rattle.model.specs.Streams.{find, put}
 use Rattle.model.specs.Messages.{is_dcep, cut, message_of, pieces, number_after, written, accepted}
@@ -104,8 +104,8 @@ known_seen l n x s h =
 
 known_begun : (l : List Stream) (n : Numbers) (now : ℕ) (x : Message) → Known l n x → Known l (all_seen n) (begun now n.unstarted x)
 known_begun l n now x h =
-    bool_case (λ b. leb k x.number ≡ b → Known l (all_seen n) (if b && has_lifetime x then timed else x)) (leb k x.number)
-    (λ _ e. bool_case (λ b. has_lifetime x ≡ b → Known l (all_seen n) (if b then timed else x)) (has_lifetime x) (λ _. with_one) (λ _. with_none e) refl)
+    bool_case (λ b. leb k x.number ≡ b → Known l (all_seen n) (when b && has_lifetime x then timed else x)) (leb k x.number)
+    (λ _ e. bool_case (λ b. has_lifetime x ≡ b → Known l (all_seen n) (when b then timed else x)) (has_lifetime x) (λ _. with_one) (λ _. with_none e) refl)
     (λ _ e. known_seen l n x (leb-false k x.number e) h) refl
   where
     k : ℕ

@@ -15,7 +15,7 @@ use Rattle.octets.specs.Numbers.{short_at, long_at, zeros}
 use Rattle.model.specs.declared.Chunk.{Chunk}
 use Rattle.model.specs.declared.Data.{Data}
 use Rattle.model.specs.declared.Laid.{Laid}
-use Rattle.model.specs.Lists.{if◌then◌else◌}
+use Rattle.model.specs.Lists.{when◌then◌else◌}
 use Rattle.model.specs.State.{Sender, in_flight, place}
 use Rattle.model.specs.Messages.{flags}
 use Rattle.model.specs.Flight.{outstanding}
@@ -34,12 +34,12 @@ module _ (t : ℕ) (l out : List ℕ) (s : Sender) where
   none_to_send : (o : Option Chunk) → ((c : Chunk) → o ≡ some c → outstanding c ≡ true → ⊥) → data_of_entry o t l out ≡ unwritten no_entry out
   none_to_send none h = refl
   none_to_send (some c) h =
-      bool_case (λ b. (if b then data_laid t c l out else unwritten no_entry out) ≡ unwritten no_entry out) (outstanding c) (λ e. absurd (h c refl e)) (λ _. refl)
+      bool_case (λ b. (when b then data_laid t c l out else unwritten no_entry out) ≡ unwritten no_entry out) (outstanding c) (λ e. absurd (h c refl e)) (λ _. refl)
 
   -- with one
   of_one : (c : Chunk) → ToSend t s c → data_of_entry (in_flight t s.flight) t l out ≡ data_laid t c l out
   of_one c h =
-      ap (λ (o : Option Chunk). data_of_entry o t l out) h.entry ∙ ap (λ (b : Bool). if b then data_laid t c l out else unwritten no_entry out) h.outstanding
+      ap (λ (o : Option Chunk). data_of_entry o t l out) h.entry ∙ ap (λ (b : Bool). when b then data_laid t c l out else unwritten no_entry out) h.outstanding
 
 module _ (t : ℕ) (c : Chunk) (l out : List ℕ) where
   not_within : length l < c.offset + c.length → data_laid t c l out ≡ unwritten payload_outside out
@@ -155,7 +155,7 @@ module _ (t : ℕ) (l out : List ℕ) (n : ℕ) where
       go : (o : Option Chunk) → in_flight t s.flight ≡ o → (data_of_entry o t l out).answer ≡ Laid.Bytes n → (c : Chunk) × ToSend t s c × Back c (data_of_entry (in_flight t s.flight) t l out)
       go none q a = let y : ◌≡◌ {A = ℕ} 0 1 = cc in absurd (omega arith)
       go (some c) q a =
-          bool_case (λ b. outstanding c ≡ b → (if b then data_laid t c l out else unwritten no_entry out).answer ≡ Laid.Bytes n → (d : Chunk) × ToSend t s d × Back d (data_of_entry (in_flight t s.flight) t l out)) (outstanding c)
+          bool_case (λ b. outstanding c ≡ b → (when b then data_laid t c l out else unwritten no_entry out).answer ≡ Laid.Bytes n → (d : Chunk) × ToSend t s d × Back d (data_of_entry (in_flight t s.flight) t l out)) (outstanding c)
           (λ _ h a. let there : ToSend t s c = record { entry = q; outstanding = h } in (c, there, subst (Back c) (sym (of_one t l out s c there)) (one_back c (small c q) a)))
           (λ _ _ a. let y : ◌≡◌ {A = ℕ} 0 1 = cc in absurd (omega arith))
           refl a

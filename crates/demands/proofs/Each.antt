@@ -8,7 +8,7 @@ use mathlib.Core.Bool.{Bool, true, false}
 use mathlib.Core.Option.{some}
 use mathlib.Core.List.{List, [], ◌∷◌, ◌++◌, map, cons≢nil}
 use lib.ListN.{length, get_elem?}
-use Rattle.model.specs.Lists.{if◌then◌else◌, keep, first, last, adjust}
+use Rattle.model.specs.Lists.{when◌then◌else◌, keep, first, last, adjust}
 use Rattle.demands.specs.Words.{Each}
 use Rattle.demands.proofs.Basic.{if-case, bool_case}
 
@@ -50,7 +50,7 @@ each_passing P p l a = each_kept P (λ x. P x × (p x ≡ true)) p (λ _ e q. (q
 pub each_unkeep : {A : Type 0} (P : A → Type 0) (p : A → Bool) → ((x : A) → p x ≡ false → P x) → (l : List A) → Each P (keep p l) → Each P l
 each_unkeep P p h [] a = tt
 each_unkeep P p h (x ∷ l) a =
-    bool_case (λ b. p x ≡ b → Each P (if b then (x ∷ keep p l) else keep p l) → Each P (x ∷ l)) (p x)
+    bool_case (λ b. p x ≡ b → Each P (when b then (x ∷ keep p l) else keep p l) → Each P (x ∷ l)) (p x)
     (λ _ _ q. (q.0, each_unkeep P p h l q.1)) (λ _ e q. (h x e, each_unkeep P p h l q)) refl a
 
 pub each_adjust : {A : Type 0} (P : A → Type 0) (f : A → A) → ((x : A) → P x → P (f x)) → (i : ℕ) (l : List A) → Each P l → Each P (adjust f i l)
@@ -76,7 +76,7 @@ module _ {A : Type 0} where
   pub each_has : (P : A → Type 0) (p : A → Bool) (l : List A) → keep p l ≢ [] → Each P l → (x : A) × P x × (p x ≡ true)
   each_has P p [] h a = absurd (h refl)
   each_has P p (y ∷ l) h a =
-      bool_case (λ b. p y ≡ b → (if b then (y ∷ keep p l) else keep p l) ≢ [] → (x : A) × P x × (p x ≡ true)) (p y) (λ _ e _. (y, a.0, e)) (λ _ _ h. each_has P p l h a.1) refl h
+      bool_case (λ b. p y ≡ b → (when b then (y ∷ keep p l) else keep p l) ≢ [] → (x : A) × P x × (p x ≡ true)) (p y) (λ _ e _. (y, a.0, e)) (λ _ _ h. each_has P p l h a.1) refl h
 
   -- ---- keep
 
@@ -91,7 +91,7 @@ module _ {A : Type 0} where
   pub none_kept : (p : A → Bool) (l : List A) → keep p l ≡ [] → Each (λ x. p x ≡ false) l
   none_kept p [] e = tt
   none_kept p (x ∷ l) e =
-      bool_case (λ b. (if b then (x ∷ keep p l) else keep p l) ≡ [] → (b ≡ false) × Each (λ x. p x ≡ false) l) (p x)
+      bool_case (λ b. (when b then (x ∷ keep p l) else keep p l) ≡ [] → (b ≡ false) × Each (λ x. p x ≡ false) l) (p x)
       (λ _ q. absurd (cons≢nil q)) (λ _ q. (refl, none_kept p l q)) e
 
   -- ---- the last

@@ -15,7 +15,7 @@ use Rattle.model.specs.declared.Lane.{Lane}
 use Rattle.model.specs.declared.Lane.TheVariants.{Unordered, Ordered}
 use Rattle.model.specs.declared.UnderWay.{UnderWay}
 use Rattle.model.specs.declared.UnderWay.TheVariants.{Idle, Sending}
-use Rattle.model.specs.Lists.{if◌then◌else◌, keep, first, last}
+use Rattle.model.specs.Lists.{when◌then◌else◌, keep, first, last}
 use Rattle.model.specs.State.{Sender, Pending, Out, fresh, with_pending, at, is_of, place}
 use Rattle.model.specs.Rings.{head_lane, with_lifetimes, sent_at, pending_of, without, given_up, terminators, abandoned}
 use Rattle.model.specs.Flight.{acknowledged, to_retransmit}
@@ -71,14 +71,14 @@ module _ (n : ℕ) where
   last_ends : (w : Option ℕ) → w ≢ some n → (f : List Chunk) → Contiguous w f → (c : Chunk) → last (keep (is_of n) f) ≡ some c → c.ending ≡ true
   last_ends w h [] a c e = let z : ◌≡◌ {A = ℕ} 0 1 = cc in absurd (omega arith)
   last_ends w h (d ∷ f) a c e =
-      bool_case (λ b. is_of n d ≡ b → last (if b then (d ∷ keep (is_of n) f) else keep (is_of n) f) ≡ some c → c.ending ≡ true) (is_of n d)
+      bool_case (λ b. is_of n d ≡ b → last (when b then (d ∷ keep (is_of n) f) else keep (is_of n) f) ≡ some c → c.ending ≡ true) (is_of n d)
       (λ _ i q. own (last_ends w h f a.1 c) (keep (is_of n) f) refl i q) (λ _ _ q. last_ends w h f a.1 c q) refl e
     where
       ends : (g : List Chunk) → is_of n d ≡ true → keep (is_of n) g ≡ [] → Behind w d g → d.ending ≡ true
       ends [] i k (inl q) = q
       ends [] i k (inr q) = absurd (h (q ∙ ap some (eqb-true d.message.number n i)))
       ends (x ∷ g) i k q =
-          bool_case (λ b. (if b then keep (is_of d.message.number) (x ∷ g) ≡ [] else ((x.message ≡ d.message) × (x.beginning ≡ false))) → b ≡ true) d.ending
+          bool_case (λ b. (when b then keep (is_of d.message.number) (x ∷ g) ≡ [] else ((x.message ≡ d.message) × (x.beginning ≡ false))) → b ≡ true) d.ending
           (λ _ _. refl)
           (λ _ q. absurd (true≢false (sym i ∙ ap (λ (y : Message). eqb y.number n) (sym q.0) ∙ (none_kept (is_of n) (x ∷ g) k).0))) q
 

@@ -9,7 +9,7 @@ use lib.ListN.{length, get_elem?}
 use lib.Dec.{eqb, eqb-suc-suc, eqb-zero-suc, eqb-suc-zero}
 use Rattle.model.specs.declared.Chunk.{Chunk}
 use Rattle.model.specs.declared.Message.{Message}
-use Rattle.model.specs.Lists.{if◌then◌else◌}
+use Rattle.model.specs.Lists.{when◌then◌else◌}
 use Rattle.model.specs.Messages.{pieces, piece, cut, message_of}
 use Rattle.model.specs.Rings.{bytes}
 use Rattle.demands.specs.Words.{Each}
@@ -45,7 +45,7 @@ same_piece : (x : Message) {b b' e e' : Bool} {o o' l l' : ℕ} → b ≡ b' →
 same_piece x p q r s = cc
 
 fragment_at : (x : Message) (b : Bool) (n m o l i : ℕ) → i < n
-    → get_elem? (cut x b n m o l) i ≡ some (piece x (b && eqb i 0) (eqb (suc i) n) (o + i * m) (if eqb (suc i) n then l - i * m else m))
+    → get_elem? (cut x b n m o l) i ≡ some (piece x (b && eqb i 0) (eqb (suc i) n) (o + i * m) (when eqb (suc i) n then l - i * m else m))
 fragment_at x b zero m o l i h = absurd (not-suc-le-zero h)
 fragment_at x b (suc zero) m o l zero h = same_piece x (sym (and-true b)) refl (omega arith) (omega arith)
 fragment_at x b (suc zero) m o l (suc i) h = absurd (omega arith)
@@ -53,7 +53,7 @@ fragment_at x b (suc (suc n)) m o l zero h =
     rw (eqb-suc-suc 0 (suc n), eqb-zero-suc n) (same_piece x (sym (and-true b)) refl (omega arith) refl)
 fragment_at x b (suc (suc n)) m o l (suc i) h =
     fragment_at x false (suc n) m (o + m) (l - m) i (omega arith)
-    ∙ rw (eqb-suc-suc (suc i) (suc n), eqb-suc-zero i) (same_piece x (sym (and-false b)) refl (omega arith) (ap (λ (k : ℕ). if eqb (suc i) (suc n) then k else m) (omega arith)))
+    ∙ rw (eqb-suc-suc (suc i) (suc n), eqb-suc-zero i) (same_piece x (sym (and-false b)) refl (omega arith) (ap (λ (k : ℕ). when eqb (suc i) (suc n) then k else m) (omega arith)))
 
 -- every fragment has 1 to m bytes of the message, so what holds of all such holds of each
 module _ (P : Chunk → Type 0) (x : Message) (m reach : ℕ) (least : 1 ≤ m)
@@ -96,7 +96,7 @@ fragmenting p number offset len t h =
     }
 
 -- 1, 2 and 4 for three bits, read back one by one
-octet : (e b u : Bool) → let x = bit e + (if b then 2 else 0) + (if u then 4 else 0) in (x % 2 ≡ bit e) × (x / 2 % 2 ≡ bit b) × (x / 4 ≡ bit u)
+octet : (e b u : Bool) → let x = bit e + (when b then 2 else 0) + (when u then 4 else 0) in (x % 2 ≡ bit e) × (x / 2 % 2 ≡ bit b) × (x / 4 ≡ bit u)
 octet true true true = (refl, refl, refl)
 octet true true false = (refl, refl, refl)
 octet true false true = (refl, refl, refl)

@@ -5,11 +5,10 @@ use mathlib.Core.List.{List, [], ◌∷◌}
 use Prim.Native.Nat.{ℕ, zero, suc, ◌+◌, ◌-◌, ◌≤◌, ◌<◌, max}
 use native.Mathlib.Decide.{dec_lt}
 use native.Mathlib.Omega.{arith}
-use lib.Dec.{leb}
 use borrow.Author.Tests.{le-leb, lt-leb}
 use Rattle.model.specs.declared.Block.{Block}
 use Rattle.model.specs.declared.Chunk.{Chunk}
-use Rattle.model.specs.Lists.{if◌then◌else◌, some_of, adjust}
+use Rattle.model.specs.Lists.{when◌then◌else◌, some_of, adjust}
 use Rattle.model.specs.Flight.{acknowledged}
 use Rattle.demands.specs.Sacks.{inside, gapped}
 
@@ -38,10 +37,10 @@ module _ (b : Block) where
   far i = b.start - i
 
   outside : (i : ℕ) → inside i b ≡ false → (c : Chunk) (l : List Chunk) → gapped (b ∷ []) i (c ∷ l) ≡ c ∷ gapped (b ∷ []) (suc i) l
-  outside i e c l = ap (λ (t : Bool). (if t || false then acknowledged c else c) ∷ gapped (b ∷ []) (suc i) l) e
+  outside i e c l = ap (λ (t : Bool). (when t || false then acknowledged c else c) ∷ gapped (b ∷ []) (suc i) l) e
 
   within : (i : ℕ) → inside i b ≡ true → (c : Chunk) (l : List Chunk) → gapped (b ∷ []) i (c ∷ l) ≡ acknowledged c ∷ gapped (b ∷ []) (suc i) l
-  within i e c l = ap (λ (t : Bool). (if t || false then acknowledged c else c) ∷ gapped (b ∷ []) (suc i) l) e
+  within i e c l = ap (λ (t : Bool). (when t || false then acknowledged c else c) ∷ gapped (b ∷ []) (suc i) l) e
 
   pub block_range : (i : ℕ) (l : List Chunk) → gapped (b ∷ []) i l ≡ acks (many i) (far i) l
   block_range i [] = sym (acks_nil (many i) (far i))
@@ -76,7 +75,7 @@ pub no_gaps : (i : ℕ) (l : List Chunk) → gapped [] i l ≡ l
 no_gaps i [] = refl
 no_gaps i (c ∷ l) = ap (λ (r : List Chunk). c ∷ r) (no_gaps (suc i) l)
 
-twice : (x y : Bool) (c : Chunk) → (if y then acknowledged (if x || false then acknowledged c else c) else (if x || false then acknowledged c else c)) ≡ (if x || y then acknowledged c else c)
+twice : (x y : Bool) (c : Chunk) → (when y then acknowledged (when x || false then acknowledged c else c) else (when x || false then acknowledged c else c)) ≡ (when x || y then acknowledged c else c)
 twice true true c = refl
 twice true false c = refl
 twice false true c = refl

@@ -18,7 +18,7 @@ use Rattle.model.specs.declared.Message.{Message}
 use Rattle.model.specs.declared.Stream.{Stream}
 use Rattle.model.specs.declared.UnderWay.{UnderWay}
 use Rattle.model.specs.declared.Written.{Written}
-use Rattle.model.specs.Lists.{if◌then◌else◌, keep, first}
+use Rattle.model.specs.Lists.{when◌then◌else◌, keep, first}
 use Rattle.model.specs.State.{Sender, Pending, Numbers, Out, fresh, with_pending, at, lane_of, in_rings, with_ring, is_of}
 use Rattle.model.specs.Streams.{find}
 use Rattle.model.specs.Messages.{pieces, fragments, message_of, is_unordered, number_after, accepted, write}
@@ -56,21 +56,21 @@ module _ (n : ℕ) where
   cut_append : (l r : List Chunk) → cut_of n (l ++ r) ≡ cut_of n l ++ cut_of n r
   cut_append [] r = refl
   cut_append (c ∷ l) r =
-      bool_case (λ b. map as_cut (if b then (c ∷ keep (is_of n) (l ++ r)) else keep (is_of n) (l ++ r)) ≡ map as_cut (if b then (c ∷ keep (is_of n) l) else keep (is_of n) l) ++ cut_of n r) (is_of n c)
+      bool_case (λ b. map as_cut (when b then (c ∷ keep (is_of n) (l ++ r)) else keep (is_of n) (l ++ r)) ≡ map as_cut (when b then (c ∷ keep (is_of n) l) else keep (is_of n) l) ++ cut_of n r) (is_of n c)
       (λ _. ap (λ (x : List Chunk). as_cut c ∷ x) (cut_append l r)) (λ _. cut_append l r)
 
   cut_map : (g : Chunk → Chunk) → ((c : Chunk) → as_cut (g c) ≡ as_cut c) → (l : List Chunk) → cut_of n (map g l) ≡ cut_of n l
   cut_map g h [] = refl
   cut_map g h (c ∷ l) =
-      subst (λ (b : Bool). map as_cut (if b then (g c ∷ keep (is_of n) (map g l)) else keep (is_of n) (map g l)) ≡ cut_of n (c ∷ l)) (ap (is_of n) (sym (h c)))
-      (bool_case (λ b. map as_cut (if b then (g c ∷ keep (is_of n) (map g l)) else keep (is_of n) (map g l)) ≡ map as_cut (if b then (c ∷ keep (is_of n) l) else keep (is_of n) l)) (is_of n c)
+      subst (λ (b : Bool). map as_cut (when b then (g c ∷ keep (is_of n) (map g l)) else keep (is_of n) (map g l)) ≡ cut_of n (c ∷ l)) (ap (is_of n) (sym (h c)))
+      (bool_case (λ b. map as_cut (when b then (g c ∷ keep (is_of n) (map g l)) else keep (is_of n) (map g l)) ≡ map as_cut (when b then (c ∷ keep (is_of n) l) else keep (is_of n) l)) (is_of n c)
       (λ _ i. h c i ∷ cut_map g h l i) (λ _. cut_map g h l))
 
   -- all of n are kept
   cut_keep : (p : Chunk → Bool) → ((c : Chunk) → is_of n c ≡ true → p c ≡ true) → (l : List Chunk) → cut_of n (keep p l) ≡ cut_of n l
   cut_keep p h [] = refl
   cut_keep p h (c ∷ l) =
-      bool_case (λ b. is_of n c ≡ b → cut_of n (if p c then (c ∷ keep p l) else keep p l) ≡ map as_cut (if b then (c ∷ keep (is_of n) l) else keep (is_of n) l)) (is_of n c)
+      bool_case (λ b. is_of n c ≡ b → cut_of n (when p c then (c ∷ keep p l) else keep p l) ≡ map as_cut (when b then (c ∷ keep (is_of n) l) else keep (is_of n) l)) (is_of n c)
       (λ _ e. rw (h c e, e) (ap (λ (x : List Chunk). as_cut c ∷ x) (cut_keep p h l)))
       (λ _ e. if-case (λ (x : List Chunk). cut_of n x ≡ cut_of n l) (p c) (λ _. rw e (cut_keep p h l)) (λ _. cut_keep p h l)) refl
 
@@ -118,7 +118,7 @@ module _ (n : ℕ) where
   left_sent s v now c x e w =
       left_ring l w (cut_of n (sent_at now c ∷ [])) x s.pending
       (ap (cut_of n) e ∙ cut_append (c ∷ []) x ∙ ap (λ (y : List Chunk). y ++ cut_of n x) (sym (cut_map (sent_at now) (λ _. refl) (c ∷ []))))
-      (bool_case (λ b. is_of n c ≡ b → (map as_cut (if b then (sent_at now c ∷ []) else []) ≡ []) ⊎ (cut_of n (at (other l) s.pending) ≡ [])) (is_of n c)
+      (bool_case (λ b. is_of n c ≡ b → (map as_cut (when b then (sent_at now c ∷ []) else []) ≡ []) ⊎ (cut_of n (at (other l) s.pending) ≡ [])) (is_of n c)
       (λ _ i. inr (ap (λ (y : List Chunk). map as_cut y) (beside i))) (λ _ _. inl refl) refl)
     where
       l : Lane

@@ -19,7 +19,7 @@ use Rattle.model.specs.declared.Sent.{Sent}
 use Rattle.model.specs.declared.Stream.{Stream}
 use Rattle.model.specs.declared.TailExpired.{TailExpired}
 use Rattle.model.specs.declared.Lane.{Lane}
-use Rattle.model.specs.Lists.{if◌then◌else◌, some_of}
+use Rattle.model.specs.Lists.{when◌then◌else◌, some_of}
 use Rattle.model.specs.State.{Sender, Out, same, at, lane_of}
 use Rattle.model.specs.Streams.{find, open_new, open_stream, changed, set_reliability, set_low, set_high, releasing, release, amount, counts}
 use Rattle.model.specs.Messages.{pieces, is_unordered, writing, write}
@@ -107,7 +107,7 @@ fine : {A : Type 0} {f : A → Answer} {l : List ℕ} {s : Sender} {r : Out A} �
 fine e h = record { unchanged = λ n. absurd (n e); listed = quiet h }
 
 -- a test decides between two
-either : {A : Type 0} {f : A → Answer} {l : List ℕ} {s : Sender} (b : Bool) {x y : Out A} → Harmless f l s x → Harmless f l s y → Harmless f l s (if b then x else y)
+either : {A : Type 0} {f : A → Answer} {l : List ℕ} {s : Sender} (b : Bool) {x y : Out A} → Harmless f l s x → Harmless f l s y → Harmless f l s (when b then x else y)
 either true p q = p
 either false p q = q
 
@@ -136,7 +136,7 @@ release_found (some t) r s = fine refl refl
 
 -- the clock is tested first
 clocked : {A : Type 0} {f : A → Answer} {l : List ℕ} {s : Sender} (now : ℕ) (a : A) {y : Out A} → refusal_in (f a) ≡ some beyond_limit → some_of (eqb beyond_limit) l ≡ true
-    → Harmless f l s y → Harmless f l s (if ltb clock_max now then same a s else y)
+    → Harmless f l s y → Harmless f l s (when ltb clock_max now then same a s else y)
 clocked now a e h p = either (ltb clock_max now) (still (refuses beyond_limit e h refl)) p
 
 send_front : (x : Lane) (y : List Chunk) (room : Room) (now : ℕ) (s s' : Sender) → Harmless to_send (refusals_of (Send now)) s (sending x y room now s s')

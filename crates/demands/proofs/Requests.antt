@@ -11,7 +11,7 @@ use Rattle.limits.specs.Limits.{Room, tsns}
 use Rattle.limits.specs.Refusals.{bad_sack, bad_block}
 use Rattle.model.specs.declared.Block.{Block}
 use Rattle.model.specs.declared.Sacked.{Sacked}
-use Rattle.model.specs.Lists.{if◌then◌else◌, total}
+use Rattle.model.specs.Lists.{when◌then◌else◌, total}
 use Rattle.model.specs.State.{Sender, Out, fresh, same}
 use Rattle.model.specs.Messages.{write}
 use Rattle.model.specs.Rings.{pending_of}
@@ -41,11 +41,11 @@ module _ (room : Room) (t : ℕ) (l : List Block) (s : Sender) where
   -- what becomes of it, by whether it is stale and whether its blocks are good
   abbrev read : (stale good : Bool) → Out Sacked
   read stale good =
-      if stale then same Sacked.Stale s else
-      if good then record { after = run room (sack_calls t l s.flight) s; says = Sacked.Released (total bytes_in (answers room (sack_calls t l s.flight) s)) }
+      when stale then same Sacked.Stale s else
+      when good then record { after = run room (sack_calls t l s.flight) s; says = Sacked.Released (total bytes_in (answers room (sack_calls t l s.flight) s)) }
       else same (Sacked.Refused bad_block) s
 
-  read_is : (stale good : Bool) → (read stale good).after ≡ run room (if stale then [] else if good then sack_calls t l s.flight else []) s
+  read_is : (stale good : Bool) → (read stale good).after ≡ run room (when stale then [] else when good then sack_calls t l s.flight else []) s
   read_is true good = refl
   read_is false true = refl
   read_is false false = refl
@@ -60,7 +60,7 @@ unfolding sack
 serve_is room (Single k) s = refl
 serve_is room (ReadSack p) s = go (is_sack p)
   where
-    go : (b : Bool) → (if b then sacking room (cumulative_of p) (blocks_in p) s else same (Sacked.Refused bad_sack) s).after ≡ run room (if b then sack_singles (cumulative_of p) (blocks_in p) s else []) s
+    go : (b : Bool) → (when b then sacking room (cumulative_of p) (blocks_in p) s else same (Sacked.Refused bad_sack) s).after ≡ run room (when b then sack_singles (cumulative_of p) (blocks_in p) s else []) s
     go true = sacking_is room (cumulative_of p) (blocks_in p) s
     go false = refl
 
@@ -162,7 +162,7 @@ module _ (room : Room) (p : List ℕ) (s : Sender) where
   good = all_within (length s.flight.entries - covered cumulative s.flight) (blocks_in p)
 
   abbrev outcome : Bool → Out Sacked
-  outcome is = if is then sacking room cumulative (blocks_in p) s else same (Sacked.Refused bad_sack) s
+  outcome is = when is then sacking room cumulative (blocks_in p) s else same (Sacked.Refused bad_sack) s
 
   stale_outcome : (is : Bool) → (outcome is).says ≡ Sacked.Stale → (outcome is).after ≡ s
   stale_outcome true e = stale_read room cumulative (blocks_in p) s stale good e

@@ -16,7 +16,7 @@ use Rattle.model.specs.declared.Lane.{Lane}
 use Rattle.model.specs.declared.Lane.TheVariants.{Unordered, Ordered}
 use Rattle.model.specs.declared.UnderWay.{UnderWay}
 use Rattle.model.specs.declared.UnderWay.TheVariants.{Idle, Sending}
-use Rattle.model.specs.Lists.{if◌then◌else◌, keep, first}
+use Rattle.model.specs.Lists.{when◌then◌else◌, keep, first}
 use Rattle.model.specs.State.{Sender, Pending, Numbers, Out, at, in_rings, with_ring, lane_of, is_of}
 use Rattle.model.specs.Messages.{fragments, is_unordered}
 use Rattle.model.specs.Rings.{lane_ahead, head_lane, started, with_lifetimes, under_way_after, send, without, overdue}
@@ -34,9 +34,9 @@ use Rattle.demands.proofs.Steps.{keeps}
 
 -- what comes up to the end behind c, by the test that says what must come behind it
 behind_case : (P : Option Chunk → Type 0) (c : Chunk) (l r : List Chunk) → P (behind c) → (P (some c) → l ≡ r)
-    → ◌≡◌ {A = List Chunk} (if c.ending then [] else l) (if c.ending then [] else r)
+    → ◌≡◌ {A = List Chunk} (when c.ending then [] else l) (when c.ending then [] else r)
 behind_case P c l r x f =
-    bool_case (λ b. P (if b then none else some c) → ◌≡◌ {A = List Chunk} (if b then [] else l) (if b then [] else r)) c.ending (λ _ _. refl) (λ _ x. f x) x
+    bool_case (λ b. P (when b then none else some c) → ◌≡◌ {A = List Chunk} (when b then [] else l) (when b then [] else r)) c.ending (λ _ _. refl) (λ _ x. f x) x
 
 module _ (W : Message → Type 0) where
   end_append : (p : Chunk) (k : ℕ) (l x : List Chunk) → Ring W (some p) k l → up_to_end (l ++ x) ≡ up_to_end l
@@ -53,8 +53,8 @@ module _ (W : Message → Type 0) where
 end_started : (now k : ℕ) (l : List Chunk) → map bare (up_to_end (map (started now k) l)) ≡ map bare (up_to_end l)
 end_started now k [] = refl
 end_started now k (c ∷ l) =
-    let tail : map bare (if c.ending then [] else up_to_end (map (started now k) l)) ≡ map bare (if c.ending then [] else up_to_end l) =
-    bool_case (λ b. map bare (if b then [] else up_to_end (map (started now k) l)) ≡ map bare (if b then [] else up_to_end l)) c.ending (λ _. refl) (λ _. end_started now k l) in
+    let tail : map bare (when c.ending then [] else up_to_end (map (started now k) l)) ≡ map bare (when c.ending then [] else up_to_end l) =
+    bool_case (λ b. map bare (when b then [] else up_to_end (map (started now k) l)) ≡ map bare (when b then [] else up_to_end l)) c.ending (λ _. refl) (λ _. end_started now k l) in
     λ i. bare_started now k c i ∷ tail i
 
 -- ---- the rest
@@ -94,10 +94,10 @@ rest_without (Sending l) p v n h =
     rw (e, at_without n p l) (end_keep (Waiting v.fate v.sheet l) n v.last 0 (at l p) e (own_ring v))
 
 -- a send takes the first of it
-front_rest : (j : Lane) (c : Chunk) (x : List Chunk) (p : Pending) → rest (with_ring j (under_way_after j c) x p) ≡ (if c.ending then [] else up_to_end x)
+front_rest : (j : Lane) (c : Chunk) (x : List Chunk) (p : Pending) → rest (with_ring j (under_way_after j c) x p) ≡ (when c.ending then [] else up_to_end x)
 front_rest j c x p = rw (ring_way j (under_way_after j c) x p) (go c.ending (under_way_after j c))
   where
-    go : (b : Bool) (w : UnderWay) → rest_in (if b then Idle else Sending j) (with_ring j w x p) ≡ (if b then [] else up_to_end x)
+    go : (b : Bool) (w : UnderWay) → rest_in (when b then Idle else Sending j) (with_ring j w x p) ≡ (when b then [] else up_to_end x)
     go true w = refl
     go false w = ap up_to_end (ring_own j w x p)
 
@@ -192,9 +192,9 @@ in_order_lem {room} (k ∷ ks) s v n i h =
 
 -- ---- behind a send
 
-remaining_behind : (W : Message → Type 0) (c : Chunk) (k : ℕ) (x : List Chunk) → Ring W (behind c) k x → Remaining (behind (bare c)) (map bare (if c.ending then [] else up_to_end x))
+remaining_behind : (W : Message → Type 0) (c : Chunk) (k : ℕ) (x : List Chunk) → Ring W (behind c) k x → Remaining (behind (bare c)) (map bare (when c.ending then [] else up_to_end x))
 remaining_behind W c k x =
-    bool_case (λ b. Ring W (if b then none else some c) k x → Remaining (if b then none else some (bare c)) (map bare (if b then [] else up_to_end x))) c.ending
+    bool_case (λ b. Ring W (when b then none else some c) k x → Remaining (when b then none else some (bare c)) (map bare (when b then [] else up_to_end x))) c.ending
     (λ _ _. tt) (λ _ r. remaining_bare (some c) (up_to_end x) (ring_rest W c k x r))
 
 pub sent_remaining : {room : Room} (s : Sender) → Valid room s → (now tsn : ℕ) (y : Chunk) → (send room now s).says ≡ Sent.Yielded tsn y

@@ -13,7 +13,7 @@ use borrow.Author.Tests.{not-true, not-false, eqb-true, eqb-false, ne_eqb, lt-le
 use Rattle.limits.specs.declared.Moment.TheVariants.{Absent, At}
 use Rattle.model.specs.declared.Chunk.{Chunk}
 use Rattle.model.specs.declared.Message.{Message}
-use Rattle.model.specs.Lists.{if◌then◌else◌, keep}
+use Rattle.model.specs.Lists.{when◌then◌else◌, keep}
 use Rattle.model.specs.State.{is_of}
 use Rattle.model.specs.Messages.{piece, cut}
 use Rattle.model.specs.Rings.{with_message, renewed, has_lifetime, begun, started, ssn_before, lowered}
@@ -64,7 +64,7 @@ ring_append (some p) k m (c ∷ l) r f h a b =
 
 abbrev pub minus : ℕ → Option Chunk → Option Chunk
 minus n none = none
-minus n (some p) = if is_of n p then none else some p
+minus n (some p) = when is_of n p then none else some p
 
 minus_yes : (n : ℕ) (c : Chunk) → is_of n c ≡ true → minus n (behind c) ≡ none
 minus_yes n c e = if-case (λ (w : Option Chunk). minus n w ≡ none) c.ending (λ _. refl) (λ _. rw e refl)
@@ -89,7 +89,7 @@ module _ {W W' : Message → Type 0} (n : ℕ) (f : (x : Message) → x.number �
       let m : ℕ = c.message.number in
       let ih = ring_keep (behind c) (suc m) l (omega (arith, floor_behind c)) r.1 in
       let same : is_of n p ≡ is_of n c = ap (λ (i : ℕ). eqb i n) (sym (number_follows r.0)) in
-      rw same (if-case (λ (x : List Chunk). Ring W' (if is_of n c then none else some p) k x) (not (is_of n c))
+      rw same (if-case (λ (x : List Chunk). Ring W' (when is_of n c then none else some p) k x) (not (is_of n c))
       (λ e. rw (not-true (is_of n c) e) (r.0, subst (λ (w : Option Chunk). Left w (suc m) l) (minus_no n c (not-true _ e)) ih))
       (λ e. rw (not-false (is_of n c) e) (ring_weaken none (suc m) k (keep (λ d. not (is_of n d)) l) (omega (arith, number_follows r.0)) (λ _ _ x. x)
       (subst (λ (w : Option Chunk). Left w (suc m) l) (minus_yes n c (not-false _ e)) ih))))
@@ -110,7 +110,7 @@ cut_ring W x (suc (suc n)) m o l h = (refl, h, le_refl _, cut_behind W (piece x 
 -- ---- what is left of the message under way
 
 rest_go : (W : Message → Type 0) (c : Chunk) (k : ℕ) (l : List Chunk) → (Ring W (some c) k l → Remaining (some c) (up_to_end l)) → (b : Bool)
-    → Ring W (if b then none else some c) k l → Remaining (if b then none else some c) (if b then [] else up_to_end l)
+    → Ring W (when b then none else some c) k l → Remaining (when b then none else some c) (when b then [] else up_to_end l)
 rest_go W c k l f true r = tt
 rest_go W c k l f false r = f r
 
@@ -129,8 +129,8 @@ module _ (f : Chunk → Chunk) (keeps-number : (c : Chunk) → (f c).message.num
     (keeps-follows : (p c : Chunk) → Follows p c → Follows (f p) (f c)) where
   behind_map : (c : Chunk) → behind (f c) ≡ omap f (behind c)
   behind_map c =
-      subst (λ (b : Bool). ◌≡◌ {A = Option Chunk} (if b then none else some (f c)) (omap f (behind c))) (sym (keeps-ending c))
-      (bool_case (λ b. ◌≡◌ {A = Option Chunk} (if b then none else some (f c)) (omap f (if b then none else some c))) c.ending (λ _. refl) (λ _. refl))
+      subst (λ (b : Bool). ◌≡◌ {A = Option Chunk} (when b then none else some (f c)) (omap f (behind c))) (sym (keeps-ending c))
+      (bool_case (λ b. ◌≡◌ {A = Option Chunk} (when b then none else some (f c)) (omap f (when b then none else some c))) c.ending (λ _. refl) (λ _. refl))
 
   pub ring_map : (W W' : Message → Type 0) → ((c : Chunk) → W c.message → W' (f c).message) → (w : Option Chunk) (k : ℕ) (l : List Chunk)
       → Ring W w k l → Ring W' (omap f w) k (map f l)
@@ -171,7 +171,7 @@ begun_number now k x = if-case (λ (y : Message). y.number ≡ x.number) (leb k 
 
 -- a message that was seen stays as it is
 pub begun_seen : (now k : ℕ) (x : Message) → x.number < k → begun now k x ≡ x
-begun_seen now k x h = ap (λ (b : Bool). if (b && has_lifetime x) then renewed x.ssn (At (now + x.reliability.value)) x else x) (lt-leb k x.number h)
+begun_seen now k x h = ap (λ (b : Bool). when (b && has_lifetime x) then renewed x.ssn (At (now + x.reliability.value)) x else x) (lt-leb k x.number h)
 
 pub bare_started : (now k : ℕ) (c : Chunk) → bare (started now k c) ≡ bare c
 bare_started now k c =
@@ -179,15 +179,15 @@ bare_started now k c =
 
 -- what `lowered` does with a message
 abbrev pub lower : (stream : ℕ) → Message → Message
-lower id x = if eqb x.stream id then renewed (ssn_before x.ssn) x.deadline x else x
+lower id x = when eqb x.stream id then renewed (ssn_before x.ssn) x.deadline x else x
 
 pub lower_number : (id : ℕ) (x : Message) → (lower id x).number ≡ x.number
 lower_number id x = if-case (λ (y : Message). y.number ≡ x.number) (eqb x.stream id) (λ _. refl) (λ _. refl)
 
 lowered_is : (id : ℕ) (c : Chunk) → lowered id c ≡ remade (lower id) c
 lowered_is id c =
-    bool_case (λ b. (if b then with_message (renewed (ssn_before c.message.ssn) c.message.deadline c.message) c else c)
-    ≡ with_message (if b then renewed (ssn_before c.message.ssn) c.message.deadline c.message else c.message) c) (eqb c.message.stream id) (λ _. refl) (λ _. refl)
+    bool_case (λ b. (when b then with_message (renewed (ssn_before c.message.ssn) c.message.deadline c.message) c else c)
+    ≡ with_message (when b then renewed (ssn_before c.message.ssn) c.message.deadline c.message else c.message) c) (eqb c.message.stream id) (λ _. refl) (λ _. refl)
 
 pub map_lowered : (id : ℕ) (l : List Chunk) → map (lowered id) l ≡ map (remade (lower id)) l
 map_lowered id [] = refl
@@ -231,7 +231,7 @@ pub whole_waits : (W : Message → Type 0) (n : ℕ) (w : Option Chunk) (k : ℕ
 whole_waits W n none k [] a r h = absurd (h refl)
 whole_waits W n (some p) k [] a r h = absurd r
 whole_waits W n none k (c ∷ l) a r h =
-    bool_case (λ b. is_of n c ≡ b → (if b then (c ∷ keep (is_of n) l) else keep (is_of n) l) ≢ [] → ((b && c.beginning) ≡ true) ⊎ Waits n l) (is_of n c)
+    bool_case (λ b. is_of n c ≡ b → (when b then (c ∷ keep (is_of n) l) else keep (is_of n) l) ≢ [] → ((b && c.beginning) ≡ true) ⊎ Waits n l) (is_of n c)
     (λ _ _ _. inl r.0) (λ _ e h. inr (whole_waits W n (behind c) _ l (if-case (NotOf n) c.ending (λ _. tt) (λ _. e)) r.3 h)) refl h
 whole_waits W n (some p) k (c ∷ l) a r h =
     let e : is_of n c ≡ false = ap (λ (m : ℕ). eqb m n) (number_follows r.0) ∙ a in

@@ -3,7 +3,7 @@ use Prim.Native.Nat.{ℕ, suc, ◌≤◌, ◌<◌}
 use native.Mathlib.Nat.{le_refl}
 use native.Mathlib.Omega.{arith}
 use mathlib.Core.Path.{◌≡◌, refl, sym, ap, subst, ◌∙◌}
-use mathlib.Core.Logic.{◌≢◌, ◌⊎◌, inl, inr}
+use mathlib.Core.Logic.{◌≢◌, inl, inr}
 use mathlib.Core.Bool.{true, false, not}
 use mathlib.Core.Option.{Option, none, some}
 use mathlib.Core.List.{List, [], ◌∷◌, ◌++◌}
@@ -16,7 +16,7 @@ use Rattle.model.specs.declared.Lane.{Lane}
 use Rattle.model.specs.declared.Lane.TheVariants.{Unordered, Ordered}
 use Rattle.model.specs.declared.UnderWay.{UnderWay}
 use Rattle.model.specs.declared.UnderWay.TheVariants.{Idle, Sending}
-use Rattle.model.specs.Lists.{if◌then◌else◌, keep}
+use Rattle.model.specs.Lists.{when◌then◌else◌, keep}
 use Rattle.model.specs.State.{Sender, at, is_of}
 use Rattle.model.specs.Rings.{head_lane, head}
 use Rattle.demands.specs.Words.{behind, Each, Waits, number_of_head, number_under_way}
@@ -37,7 +37,7 @@ module _ (W : Message → Type 0) (n : ℕ) (h : (x : Message) → W x → x.num
   drop_rest : (c : Chunk) (l : List Chunk) → Ring W (behind c) (suc c.message.number) l → keep (λ d. not (is_of n d)) l ≡ drop_run n l
       → keep (λ d. not (is_of n d)) (c ∷ l) ≡ drop_run n (c ∷ l)
   drop_rest c l r ih =
-      bool_case (λ b. is_of n c ≡ b → (if not b then (c ∷ keep (λ d. not (is_of n d)) l) else keep (λ d. not (is_of n d)) l) ≡ (if b then drop_run n l else (c ∷ l))) (is_of n c)
+      bool_case (λ b. is_of n c ≡ b → (when not b then (c ∷ keep (λ d. not (is_of n d)) l) else keep (λ d. not (is_of n d)) l) ≡ (when b then drop_run n l else (c ∷ l))) (is_of n c)
       (λ _ _. ih)
       (λ _ e. ap (λ (x : List Chunk). c ∷ x) (keep_all n l (none_kept (is_of n) l (none_of {W = W} n h (behind c) (suc c.message.number) l (if-case (NotOf n) c.ending (λ _. tt) (λ _. e)) r)))) refl
 

@@ -1,5 +1,5 @@
 -- The table of streams: what every change of it keeps.
-use Prim.Native.Nat.{ℕ, zero, suc, ◌+◌, ◌-◌, ◌^◌, ◌≤◌, ◌<◌}
+use Prim.Native.Nat.{ℕ, zero, suc, ◌+◌, ◌^◌, ◌≤◌, ◌<◌}
 use native.Mathlib.Nat.{le_refl, le_trans}
 use native.Mathlib.Omega.{arith}
 use mathlib.Core.Path.{◌≡◌, refl, sym, ap, subst, ◌∙◌}
@@ -14,7 +14,7 @@ use Rattle.limits.specs.Limits.{Room, payload_max, buffered_max, number_max, ssn
 use Rattle.model.specs.declared.Reliability.{Reliability}
 use Rattle.model.specs.declared.Statistics.{Statistics}
 use Rattle.model.specs.declared.Stream.{Stream}
-use Rattle.model.specs.Lists.{if◌then◌else◌}
+use Rattle.model.specs.Lists.{when◌then◌else◌}
 use Rattle.model.specs.Streams.{find, put, delivering, thresholds, accounted, opened, reduced}
 use Rattle.model.specs.Messages.{is_unordered, ssn_after, saturated, counted_by, written}
 use Rattle.model.specs.Rings.{ssn_before, drop_ssn}
@@ -41,13 +41,13 @@ table_same room k l = record { fits = λ _ h. h; sized = λ h. h; distinct = λ 
 pub each_find : (P : Stream → Type 0) (id : ℕ) (l : List Stream) (t : Stream) → find id l ≡ some t → Each P l → P t
 each_find P id [] t e a = let z : ◌≡◌ {A = ℕ} 0 1 = cc in absurd (omega arith)
 each_find P id (x ∷ l) t e a =
-    bool_case (λ b. (if b then some x else find id l) ≡ some t → P t) (eqb x.identifier id)
+    bool_case (λ b. (when b then some x else find id l) ≡ some t → P t) (eqb x.identifier id)
     (λ _ q. let w : x ≡ t = cc in subst P w a.0) (λ _ q. each_find P id l t q a.1) e
 
 pub found_is : (id : ℕ) (l : List Stream) (t : Stream) → find id l ≡ some t → t.identifier ≡ id
 found_is id [] t e = let z : ◌≡◌ {A = ℕ} 0 1 = cc in absurd (omega arith)
 found_is id (x ∷ l) t e =
-    bool_case (λ b. eqb x.identifier id ≡ b → (if b then some x else find id l) ≡ some t → t.identifier ≡ id) (eqb x.identifier id)
+    bool_case (λ b. eqb x.identifier id ≡ b → (when b then some x else find id l) ≡ some t → t.identifier ≡ id) (eqb x.identifier id)
     (λ _ h q. let w : x ≡ t = cc in subst (λ (y : Stream). y.identifier ≡ id) w (eqb-true x.identifier id h))
     (λ _ _ q. found_is id l t q) refl e
 
@@ -67,11 +67,11 @@ length_put t (x ∷ l) =
 find_none_put : (id : ℕ) (t : Stream) (l : List Stream) → find id l ≡ none → find id (put t l) ≡ none
 find_none_put id t [] e = refl
 find_none_put id t (x ∷ l) e =
-    bool_case (λ b. eqb x.identifier t.identifier ≡ b → find id (if b then (t ∷ l) else (x ∷ put t l)) ≡ none) (eqb x.identifier t.identifier)
+    bool_case (λ b. eqb x.identifier t.identifier ≡ b → find id (when b then (t ∷ l) else (x ∷ put t l)) ≡ none) (eqb x.identifier t.identifier)
     (λ _ h. rw (ap (λ (n : ℕ). eqb n id) (sym (eqb-true x.identifier t.identifier h)))
-    (bool_case (λ b. (if b then some x else find id l) ≡ none → (if b then some t else find id l) ≡ none) (eqb x.identifier id)
+    (bool_case (λ b. (when b then some x else find id l) ≡ none → (when b then some t else find id l) ≡ none) (eqb x.identifier id)
     (λ _ q. let z : ◌≡◌ {A = ℕ} 0 1 = cc in absurd (omega arith)) (λ _ q. q) e))
-    (λ _ _. bool_case (λ b. (if b then some x else find id l) ≡ none → (if b then some x else find id (put t l)) ≡ none) (eqb x.identifier id)
+    (λ _ _. bool_case (λ b. (when b then some x else find id l) ≡ none → (when b then some x else find id (put t l)) ≡ none) (eqb x.identifier id)
     (λ _ q. q) (λ _ q. find_none_put id t l q) e) refl
 
 find_some_put : (id : ℕ) (t : Stream) (l : List Stream) (x : Stream) → find id l ≡ some x → (y : Stream) × (find id (put t l) ≡ some y)
@@ -80,11 +80,11 @@ find_some_put id t l x e = go (find id (put t l)) refl
     back : (l : List Stream) → find id (put t l) ≡ none → find id l ≡ none
     back [] q = refl
     back (y ∷ l) q =
-        bool_case (λ b. eqb y.identifier t.identifier ≡ b → find id (if b then (t ∷ l) else (y ∷ put t l)) ≡ none → find id (y ∷ l) ≡ none) (eqb y.identifier t.identifier)
+        bool_case (λ b. eqb y.identifier t.identifier ≡ b → find id (when b then (t ∷ l) else (y ∷ put t l)) ≡ none → find id (y ∷ l) ≡ none) (eqb y.identifier t.identifier)
         (λ _ h r. rw (ap (λ (n : ℕ). eqb n id) (eqb-true y.identifier t.identifier h))
-        (bool_case (λ b. (if b then some t else find id l) ≡ none → (if b then some y else find id l) ≡ none) (eqb t.identifier id)
+        (bool_case (λ b. (when b then some t else find id l) ≡ none → (when b then some y else find id l) ≡ none) (eqb t.identifier id)
         (λ _ z. let w : ◌≡◌ {A = ℕ} 0 1 = cc in absurd (omega arith)) (λ _ z. z) r))
-        (λ _ _ r. bool_case (λ b. (if b then some y else find id (put t l)) ≡ none → (if b then some y else find id l) ≡ none) (eqb y.identifier id)
+        (λ _ _ r. bool_case (λ b. (when b then some y else find id (put t l)) ≡ none → (when b then some y else find id l) ≡ none) (eqb y.identifier id)
         (λ _ z. z) (λ _ z. back l z) r) refl q
 
     go : (o : Option Stream) → find id (put t l) ≡ o → (y : Stream) × (find id (put t l) ≡ some y)
@@ -94,7 +94,7 @@ find_some_put id t l x e = go (find id (put t l)) refl
 distinct_put : (t : Stream) (l : List Stream) → Distinct l → Distinct (put t l)
 distinct_put t [] d = tt
 distinct_put t (x ∷ l) d =
-    bool_case (λ b. eqb x.identifier t.identifier ≡ b → Distinct (if b then (t ∷ l) else (x ∷ put t l))) (eqb x.identifier t.identifier)
+    bool_case (λ b. eqb x.identifier t.identifier ≡ b → Distinct (when b then (t ∷ l) else (x ∷ put t l))) (eqb x.identifier t.identifier)
     (λ _ h. (subst (λ (n : ℕ). find n l ≡ none) (eqb-true x.identifier t.identifier h) d.0, d.1))
     (λ _ _. (find_none_put x.identifier t l d.0, distinct_put t l d.1)) refl
 
@@ -113,19 +113,19 @@ table_put room k id l t t' e m f =
 find_snoc : (id : ℕ) (l : List Stream) (t x : Stream) → find id l ≡ some x → find id (l ++ (t ∷ [])) ≡ some x
 find_snoc id [] t x e = let z : ◌≡◌ {A = ℕ} 0 1 = cc in absurd (omega arith)
 find_snoc id (y ∷ l) t x e =
-    bool_case (λ b. (if b then some y else find id l) ≡ some x → (if b then some y else find id (l ++ (t ∷ []))) ≡ some x) (eqb y.identifier id)
+    bool_case (λ b. (when b then some y else find id l) ≡ some x → (when b then some y else find id (l ++ (t ∷ []))) ≡ some x) (eqb y.identifier id)
     (λ _ q. q) (λ _ q. find_snoc id l t x q) e
 
 find_none_snoc : (id : ℕ) (l : List Stream) (t : Stream) → find id l ≡ none → eqb t.identifier id ≡ false → find id (l ++ (t ∷ [])) ≡ none
 find_none_snoc id [] t e h = rw h refl
 find_none_snoc id (y ∷ l) t e h =
-    bool_case (λ b. (if b then some y else find id l) ≡ none → (if b then some y else find id (l ++ (t ∷ []))) ≡ none) (eqb y.identifier id)
+    bool_case (λ b. (when b then some y else find id l) ≡ none → (when b then some y else find id (l ++ (t ∷ []))) ≡ none) (eqb y.identifier id)
     (λ _ q. q) (λ _ q. find_none_snoc id l t q h) e
 
 distinct_snoc : (l : List Stream) (t : Stream) → Distinct l → find t.identifier l ≡ none → Distinct (l ++ (t ∷ []))
 distinct_snoc [] t d e = (refl, tt)
 distinct_snoc (x ∷ l) t d e =
-    bool_case (λ b. eqb x.identifier t.identifier ≡ b → (if b then some x else find t.identifier l) ≡ none → Distinct ((x ∷ l) ++ (t ∷ []))) (eqb x.identifier t.identifier)
+    bool_case (λ b. eqb x.identifier t.identifier ≡ b → (when b then some x else find t.identifier l) ≡ none → Distinct ((x ∷ l) ++ (t ∷ []))) (eqb x.identifier t.identifier)
     (λ _ _ q. let z : ◌≡◌ {A = ℕ} 0 1 = cc in absurd (omega arith))
     (λ _ h q. (find_none_snoc x.identifier l t d.0 (ne_eqb t.identifier x.identifier (λ z. eqb-false x.identifier t.identifier h (sym z))), distinct_snoc l t d.1 q)) refl e
 

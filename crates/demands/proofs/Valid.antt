@@ -1,5 +1,5 @@
 -- The invariant: it holds of a fresh sender, and what each call does to the rings and the flight keeps it.
-use Prim.Native.Nat.{ℕ, zero, suc, ◌+◌, ◌-◌, ◌≤◌, ◌<◌}
+use Prim.Native.Nat.{ℕ, zero, suc, ◌+◌, ◌≤◌, ◌<◌}
 use native.Mathlib.Nat.{le_refl, le_trans}
 use native.Mathlib.Omega.{arith}
 use mathlib.Core.Path.{◌≡◌, refl, sym, ap, subst, ◌∙◌}
@@ -17,7 +17,7 @@ use Rattle.model.specs.declared.Lane.{Lane}
 use Rattle.model.specs.declared.Lane.TheVariants.{Unordered, Ordered}
 use Rattle.model.specs.declared.UnderWay.{UnderWay}
 use Rattle.model.specs.declared.UnderWay.TheVariants.{Idle, Sending}
-use Rattle.model.specs.Lists.{if◌then◌else◌, keep, first, last, adjust}
+use Rattle.model.specs.Lists.{when◌then◌else◌, keep, first, last, adjust}
 use Rattle.model.specs.State.{Sender, Pending, Numbers, fresh, with_pending, at, in_rings, with_ring, is_of}
 use Rattle.model.specs.Records.{blank_message, blank_chunk}
 use Rattle.model.specs.Messages.{cut, number_after}
@@ -60,7 +60,7 @@ flew_begun (inr q) = omega (arith, ap rank q.0)
 -- ---- a table by number is changed at one
 
 abbrev pub upd : {A : Type 0} → (ℕ → A) → ℕ → A → ℕ → A
-upd f m x n = if eqb n m then x else f n
+upd f m x n = when eqb n m then x else f n
 
 pub upd_same : {A : Type 0} (f : ℕ → A) (m n : ℕ) (x : A) → n ≡ m → upd f m x n ≡ x
 upd_same f m n x e = rw (eq-eqb n m e)
@@ -95,13 +95,13 @@ want (Sending Unordered) p Ordered = none
 want (Sending Ordered) p Unordered = none
 want (Sending Ordered) p Ordered = some p
 
-pub want_own : (l : Lane) (p : Chunk) (b : Bool) → want (if b then Idle else Sending l) p l ≡ (if b then none else some p)
+pub want_own : (l : Lane) (p : Chunk) (b : Bool) → want (when b then Idle else Sending l) p l ≡ (when b then none else some p)
 want_own Unordered p true = refl
 want_own Unordered p false = refl
 want_own Ordered p true = refl
 want_own Ordered p false = refl
 
-pub want_other : (l : Lane) (p : Chunk) (b : Bool) → want (if b then Idle else Sending l) p (other l) ≡ none
+pub want_other : (l : Lane) (p : Chunk) (b : Bool) → want (when b then Idle else Sending l) p (other l) ≡ none
 want_other Unordered p true = refl
 want_other Unordered p false = refl
 want_other Ordered p true = refl
@@ -255,9 +255,9 @@ alike_behind : (w : Option ℕ) {c d : Chunk} {f g : List Chunk} → Like c d �
 alike_behind w {c} {d} e nil (inl h) = inl (e.ending ∙ h)
 alike_behind w {c} {d} e nil (inr h) = inr (h ∙ ap (λ (x : Message). some x.number) (sym e.message))
 alike_behind w {c} {d} e (cons {c = c'} {d = d'} {f} {g} e' a) h =
-    subst (λ (b : Bool). if b then keep (is_of d.message.number) (d' ∷ g) ≡ [] else ((d'.message ≡ d.message) × (d'.beginning ≡ false))) (sym e.ending)
-    (bool_case (λ b. (if b then keep (is_of c.message.number) (c' ∷ f) ≡ [] else ((c'.message ≡ c.message) × (c'.beginning ≡ false)))
-    → (if b then keep (is_of d.message.number) (d' ∷ g) ≡ [] else ((d'.message ≡ d.message) × (d'.beginning ≡ false)))) c.ending
+    subst (λ (b : Bool). when b then keep (is_of d.message.number) (d' ∷ g) ≡ [] else ((d'.message ≡ d.message) × (d'.beginning ≡ false))) (sym e.ending)
+    (bool_case (λ b. (when b then keep (is_of c.message.number) (c' ∷ f) ≡ [] else ((c'.message ≡ c.message) × (c'.beginning ≡ false)))
+    → (when b then keep (is_of d.message.number) (d' ∷ g) ≡ [] else ((d'.message ≡ d.message) × (d'.beginning ≡ false)))) c.ending
     (λ _ h. keep_none (is_of d.message.number) (d' ∷ g) (subst (λ (x : Message). Each (λ y. is_of x.number y ≡ false) (d' ∷ g)) (sym e.message)
     (alike_each (λ x _. eqb x.number c.message.number ≡ false) (cons e' a) (none_kept (is_of c.message.number) (c' ∷ f) h))))
     (λ _ h. (e'.message ∙ h.0 ∙ sym e.message, e'.beginning ∙ h.1)) h)
@@ -279,8 +279,8 @@ chain_joined w w' d (c ∷ []) j b h = (if-case (λ (T : Type 0). T) c.ending (�
     go e (inl q) = absurd (true≢false (sym q ∙ e))
     go e (inr q) = j.0.next q
 chain_joined w w' d (c ∷ e ∷ f) j b h = (
-  bool_case (λ t. c.ending ≡ t → (if t then keep (is_of c.message.number) (e ∷ f) ≡ [] else ((e.message ≡ c.message) × (e.beginning ≡ false)))
-      → (if t then keep (is_of c.message.number) ((e ∷ f) ++ (d ∷ [])) ≡ [] else ((e.message ≡ c.message) × (e.beginning ≡ false)))) c.ending
+  bool_case (λ t. c.ending ≡ t → (when t then keep (is_of c.message.number) (e ∷ f) ≡ [] else ((e.message ≡ c.message) × (e.beginning ≡ false)))
+      → (when t then keep (is_of c.message.number) ((e ∷ f) ++ (d ∷ [])) ≡ [] else ((e.message ≡ c.message) × (e.beginning ≡ false)))) c.ending
       (λ _ q h. keep_none (is_of c.message.number) ((e ∷ f) ++ (d ∷ []))
       (each_append (λ y. is_of c.message.number y ≡ false) (e ∷ f) (d ∷ []) (none_kept (is_of c.message.number) (e ∷ f) h) (j.0.ended q, tt)))
       (λ _ _ h. h) refl h.0,
@@ -442,7 +442,7 @@ module _ {room : Room} {w : UnderWay} {q : Lane → List Chunk} {f : List Chunk}
 
 -- what becomes of the message
 abbrev pub fate_after : (ending : Bool) → Fate
-fate_after e = if e then over else sending
+fate_after e = when e then over else sending
 
 module _ {room : Room} {w : UnderWay} {q : Lane → List Chunk} {f : List Chunk} {k : Numbers} (v : Ok room w q f k) (l : Lane) (c : Chunk) (x : List Chunk) (fr : Front v l c x) where
   abbrev m : ℕ
@@ -483,7 +483,7 @@ module _ {room : Room} {w : UnderWay} {q : Lane → List Chunk} {f : List Chunk}
           sheet = v.sheet;
           last = c;
           unused_from = λ n a. upd_other v.fate m n _ (λ e. omega (arith, ap rank (ap v.fate (sym e) ∙ v.unused_from n a), was.0)) ∙ v.unused_from n a;
-          last_sent = bool_case (λ b. If (if b then Idle else Sending l) (Last (upd v.fate m (fate_after b)) v.sheet k.unstarted c.message)) c.ending (λ _. tt)
+          last_sent = bool_case (λ b. If (when b then Idle else Sending l) (Last (upd v.fate m (fate_after b)) v.sheet k.unstarted c.message)) c.ending (λ _. tt)
               (λ _. record { sends = upd_same v.fate m m sending refl; seen = record { filed = fr.filed; below = low } });
           rings = both (λ j. Ring (Waiting fate v.sheet j) (want (under_way_after l c) c j) 0 (q' j)) l
               (rw (own, want_own l c c.ending) (ring_weaken (behind c) (suc m) 0 x (omega arith)
@@ -502,10 +502,10 @@ module _ {room : Room} {w : UnderWay} {q : Lane → List Chunk} {f : List Chunk}
                 tt,
               );
           chain = chain_joined (last_number w v.last) (last_number (under_way_after l c) c) (sent_at now c) f (each_weaken _ _ (joins v (sent_at now c) was.1 fr.filed continued) f v.flown)
-              (bool_case (λ b. (b ≡ true) ⊎ (last_number (if b then Idle else Sending l) c ≡ some m)) c.ending (λ _. inl refl) (λ _. inr refl)) v.chain;
+              (bool_case (λ b. (b ≡ true) ⊎ (last_number (when b then Idle else Sending l) c ≡ some m)) c.ending (λ _. inl refl) (λ _. inr refl)) v.chain;
           ring_fits = both (λ j. length (q' j) ≤ room.ring) l (rw own (omega (arith, ap length whole, v.ring_fits l))) (rw beside (v.ring_fits (other l)));
           flight_fits = rw (length-append f (sent_at now c ∷ []))
-              (bool_case (λ b. FlightFits room (if b then Idle else Sending l) (length f + 1)) c.ending (λ _. omega arith) (λ _. omega arith));
+              (bool_case (λ b. FlightFits room (when b then Idle else Sending l) (length f + 1)) c.ending (λ _. omega arith) (λ _. omega arith));
         };
         stays = λ n e. upd_other v.fate m n _ (λ a. omega (arith, ap rank (ap v.fate (sym a) ∙ e), was.1)) ∙ e;
       }
@@ -655,12 +655,12 @@ push_core p v Ordered x (suc n) m off len num h =
 -- what is under way then
 abbrev pub leave : ℕ → Chunk → UnderWay → UnderWay
 leave n p Idle = Idle
-leave n p (Sending l) = if is_of n p then Idle else Sending l
+leave n p (Sending l) = when is_of n p then Idle else Sending l
 
 want_leave : (n : ℕ) (p : Chunk) (w : UnderWay) (l : Lane) → want (leave n p w) p l ≡ minus n (want w p l)
 want_leave n p Idle = λ l. refl
 want_leave n p (Sending k) =
-    both (λ l. want (if is_of n p then Idle else Sending k) p l ≡ minus n (want (Sending k) p l)) k
+    both (λ l. want (when is_of n p then Idle else Sending k) p l ≡ minus n (want (Sending k) p l)) k
     (want_own k p (is_of n p) ∙ sym (ap (minus n) (want_own k p false))) (want_other k p (is_of n p) ∙ sym (ap (minus n) (want_other k p false)))
 
 pub ended_idle : (n : ℕ) (h : Option Chunk) → ended n h Idle ≡ Idle
@@ -675,7 +675,7 @@ ended_is {w = Sending l} {q} v n = go (q l) (own_ring v)
   where
     go : (x : List Chunk) → Ring (Waiting v.fate v.sheet l) (some v.last) 0 x → ended n (first x) (Sending l) ≡ leave n v.last (Sending l)
     go [] r = absurd r
-    go (c ∷ x) r = ap (λ (m : ℕ). if eqb m n then Idle else Sending l) (number_follows r.0)
+    go (c ∷ x) r = ap (λ (m : ℕ). when eqb m n then Idle else Sending l) (number_follows r.0)
 
 module _ {room : Room} {w : UnderWay} {q : Lane → List Chunk} {f : List Chunk} {k : Numbers} (v : Ok room w q f k) (n : ℕ) where
   -- it is over, and the flight is g
@@ -899,7 +899,7 @@ module _ {room : Room} {w : UnderWay} {q : Lane → List Chunk} {f : List Chunk}
       fits = subst (λ (o : UnderWay). FlightFits room o (length f)) way v.flight_fits
 
       idle : leave n v.last w ≡ Idle
-      idle = ap (leave n v.last) way ∙ ap (λ (b : Bool). if b then Idle else Sending l) (eq-eqb v.last.message.number n num)
+      idle = ap (leave n v.last) way ∙ ap (λ (b : Bool). when b then Idle else Sending l) (eq-eqb v.last.message.number n num)
 
       sends : v.fate n ≡ sending
       sends = ap v.fate (sym num) ∙ sent.sends
@@ -935,4 +935,4 @@ abandon_core {f = f} {k} p v n h = subst Goal (sym (ended_is v n)) (go p.under_w
         (λ _ a. abandon_tail v n h (λ l. at l (without n p)) (at_without n p) l e (eqb-true v.last.message.number n a))
         (λ _ a. sent
         (λ b. let z : v.last.message.number ≡ n = cc (ap (λ (o : UnderWay). last_number o v.last) e) in eqb-false v.last.message.number n a z)
-        (ap (leave n v.last) e ∙ ap (λ (b : Bool). if b then Idle else Sending l) a ∙ sym e)) refl
+        (ap (leave n v.last) e ∙ ap (λ (b : Bool). when b then Idle else Sending l) a ∙ sym e)) refl

@@ -20,7 +20,7 @@ use Rattle.model.specs.declared.Sent.{Sent}
 use Rattle.model.specs.declared.Stream.{Stream}
 use Rattle.model.specs.declared.TailExpired.{TailExpired}
 use Rattle.model.specs.declared.Written.{Written}
-use Rattle.model.specs.Lists.{if◌then◌else◌, adjust}
+use Rattle.model.specs.Lists.{when◌then◌else◌, adjust}
 use Rattle.model.specs.State.{Sender, Pending, Out, same, with_streams, with_pending, with_entries, at, lane_of, next_tsn, place, in_flight}
 use Rattle.model.specs.Streams.{find, open_stream, open_new, changed, set_reliability, set_low, set_high, release, releasing}
 use Rattle.model.specs.Messages.{pieces, is_unordered, accepted, write, writing}
@@ -171,33 +171,33 @@ module _ (room : Room) (k : Call) (s : Sender) where
       go none e = unchanged _ refl
       go (some c) e =
           let x = c.message in
-          bool_case (λ b. c.abandoned ≡ b → Does room k s (told to_abandon (if b then same (Abandoned.Message x.stream 0) s else record { after = abandoned x.number s; says = Abandoned.Message x.stream (held_by x.number s) })) (if b then none else some x.number) none false)
+          bool_case (λ b. c.abandoned ≡ b → Does room k s (told to_abandon (when b then same (Abandoned.Message x.stream 0) s else record { after = abandoned x.number s; says = Abandoned.Message x.stream (held_by x.number s) })) (when b then none else some x.number) none false)
           c.abandoned (λ _ _. unchanged _ refl) (λ _ h. abandons_it c t _ refl e h) refl
 
-  tail_does : (now : ℕ) → Does room k s (told to_expire_tail (expire_pending_tail now s)) (if ltb clock_max now then none else passing (tail_expires now) (head s.pending)) none false
+  tail_does : (now : ℕ) → Does room k s (told to_expire_tail (expire_pending_tail now s)) (when ltb clock_max now then none else passing (tail_expires now) (head s.pending)) none false
   unfolding expire_pending_tail
   tail_does now =
-      bool_case (λ b. Does room k s (told to_expire_tail (if b then same (TailExpired.Refused beyond_limit) s else tail_expiring (head s.pending) now s)) (if b then none else passing (tail_expires now) (head s.pending)) none false)
+      bool_case (λ b. Does room k s (told to_expire_tail (when b then same (TailExpired.Refused beyond_limit) s else tail_expiring (head s.pending) now s)) (when b then none else passing (tail_expires now) (head s.pending)) none false)
       (ltb clock_max now) (λ _. unchanged _ refl) (λ _. go (head s.pending) refl)
     where
       go : (x : Option Chunk) → head s.pending ≡ x → Does room k s (told to_expire_tail (tail_expiring x now s)) (passing (tail_expires now) x) none false
       go none e = unchanged _ refl
       go (some c) e =
           let x = c.message in
-          bool_case (λ b. tail_expires now c ≡ b → Does room k s (told to_expire_tail (if b then record { after = abandoned x.number s; says = TailExpired.Message x.stream x.number (held_by x.number s) } else same TailExpired.Nothing s)) (if b then some x.number else none) none false)
+          bool_case (λ b. tail_expires now c ≡ b → Does room k s (told to_expire_tail (when b then record { after = abandoned x.number s; says = TailExpired.Message x.stream x.number (held_by x.number s) } else same TailExpired.Nothing s)) (when b then some x.number else none) none false)
           (tail_expires now c) (λ _ h. expires_tail c now _ refl e h) (λ _ _. unchanged _ refl) refl
 
-  expire_does : (now : ℕ) → Does room k s (told to_expire (expire_pending now s)) none (if ltb clock_max now then none else passing (expires now) (head s.pending)) false
+  expire_does : (now : ℕ) → Does room k s (told to_expire (expire_pending now s)) none (when ltb clock_max now then none else passing (expires now) (head s.pending)) false
   unfolding expire_pending
   expire_does now =
-      bool_case (λ b. Does room k s (told to_expire (if b then same (Expired.Refused beyond_limit) s else expiring (head s.pending) now s)) none (if b then none else passing (expires now) (head s.pending)) false)
+      bool_case (λ b. Does room k s (told to_expire (when b then same (Expired.Refused beyond_limit) s else expiring (head s.pending) now s)) none (when b then none else passing (expires now) (head s.pending)) false)
       (ltb clock_max now) (λ _. unchanged _ refl) (λ _. go (head s.pending) refl)
     where
       go : (x : Option Chunk) → head s.pending ≡ x → Does room k s (told to_expire (expiring x now s)) none (passing (expires now) x) false
       go none e = unchanged _ refl
       go (some c) e =
           let x = c.message in
-          bool_case (λ b. expires now c ≡ b → Does room k s (told to_expire (if b then record { after = compacted x.unordered x.stream (with_pending (without x.number s.pending) s); says = Expired.Message x.stream x.unordered (bytes (pending_of x.number s.pending)) } else same Expired.Nothing s)) none (if b then some x.number else none) false)
+          bool_case (λ b. expires now c ≡ b → Does room k s (told to_expire (when b then record { after = compacted x.unordered x.stream (with_pending (without x.number s.pending) s); says = Expired.Message x.stream x.unordered (bytes (pending_of x.number s.pending)) } else same Expired.Nothing s)) none (when b then some x.number else none) false)
           (expires now c) (λ _ h. expires_whole c now _ refl e h) (λ _ _. unchanged _ refl) refl
 
   ack_does : (t : ℕ) → Only (told number (acknowledge t s))

@@ -16,7 +16,7 @@ use Rattle.model.specs.declared.Lane.{Lane}
 use Rattle.model.specs.declared.Lane.TheVariants.{Unordered, Ordered}
 use Rattle.model.specs.declared.UnderWay.{UnderWay}
 use Rattle.model.specs.declared.UnderWay.TheVariants.{Idle, Sending}
-use Rattle.model.specs.Lists.{if◌then◌else◌, keep}
+use Rattle.model.specs.Lists.{when◌then◌else◌, keep}
 use Rattle.model.specs.State.{Sender, Pending, Numbers, Out, at, lane_of, in_rings, with_ring, with_pending, place, is_of}
 use Rattle.model.specs.Messages.{fragments, is_unordered}
 use Rattle.model.specs.Rings.{lane_ahead, head_lane, head, started, lowered, with_lifetimes, sent_at, under_way_after, ended, without, compacted, overdue}
@@ -44,7 +44,7 @@ closer_same n l w = (w, le_refl _)
 -- one chunk more in front
 closer_cons : (n : ℕ) (c d : Chunk) (l l' : List Chunk) → is_start n d ≡ is_start n c → Closer n l l' → Closer n (c ∷ l) (d ∷ l')
 closer_cons n c d l l' e f w =
-    rw e (bool_case (λ b. (b ≡ true) ⊎ Waits n l → ((b ≡ true) ⊎ Waits n l') × ((if b then 0 else suc (before n l')) ≤ (if b then 0 else suc (before n l)))) (is_start n c)
+    rw e (bool_case (λ b. (b ≡ true) ⊎ Waits n l → ((b ≡ true) ⊎ Waits n l') × ((when b then 0 else suc (before n l')) ≤ (when b then 0 else suc (before n l)))) (is_start n c)
     (λ _ _. (inl refl, le_refl 0)) (λ _ w. go w) w)
   where
     go : (false ≡ true) ⊎ Waits n l → ((false ≡ true) ⊎ Waits n l') × (suc (before n l') ≤ suc (before n l))
@@ -64,7 +64,7 @@ closer_map n f e (c ∷ l) w = closer_cons n c (f c) l (map f l) (e c) (closer_m
 -- the chunk in front is the start, or stands before it
 first_or_later : (n : ℕ) (c : Chunk) (l : List Chunk) → Waits n (c ∷ l) → (is_start n c ≡ true) ⊎ (Waits n l × (before n (c ∷ l) ≡ suc (before n l)))
 first_or_later n c l w =
-    bool_case (λ b. (b ≡ true) ⊎ Waits n l → (b ≡ true) ⊎ (Waits n l × ((if b then 0 else suc (before n l)) ≡ suc (before n l)))) (is_start n c) (λ _ _. inl refl) (λ _ x. inr (second x, refl)) w
+    bool_case (λ b. (b ≡ true) ⊎ Waits n l → (b ≡ true) ⊎ (Waits n l × ((when b then 0 else suc (before n l)) ≡ suc (before n l)))) (is_start n c) (λ _ _. inl refl) (λ _ x. inr (second x, refl)) w
   where
     second : (false ≡ true) ⊎ Waits n l → Waits n l
     second (inl e) = absurd (true≢false (sym e))
@@ -141,7 +141,7 @@ module _ {room : Room} {f : List Chunk} {k : Numbers} (p : Pending) (v : Ok room
       go Idle v = le_refl 0
       go (Sending l) v =
           let n : ℕ = v.last.message.number in
-          bool_case (λ b. is_of m v.last ≡ b → ordered_rest (if b then Idle else Sending l) (keep (not_of m) p.ordered) ≤ ordered_rest (Sending l) p.ordered) (is_of m v.last)
+          bool_case (λ b. is_of m v.last ≡ b → ordered_rest (when b then Idle else Sending l) (keep (not_of m) p.ordered) ≤ ordered_rest (Sending l) p.ordered) (is_of m v.last)
           (λ _ _. omega arith)
           (λ _ e. le_of_eq (rest_same (Sending l) p (without m p) (ap (map bare) (rw e at (rest_without (Sending l) p v m (λ q. eqb-false n m e (cc))))))) refl
 
@@ -206,11 +206,11 @@ sent : (l j : Lane) (n now : ℕ) (c : Chunk) (x : List Chunk) (p : Pending) →
     → Nears l n (sent_at now c ∷ []) p (with_ring j (under_way_after j c) x p)
 sent Unordered Unordered n now c x p i e w =
     own_front Unordered n now c x p (with_ring Unordered (under_way_after Unordered c) x p) e refl
-    (bool_case (λ b. ordered_rest (if b then Idle else Sending Unordered) p.ordered ≤ ordered_rest p.under_way p.ordered) c.ending (λ _. omega arith) (λ _. omega arith)) w
+    (bool_case (λ b. ordered_rest (when b then Idle else Sending Unordered) p.ordered ≤ ordered_rest p.under_way p.ordered) c.ending (λ _. omega arith) (λ _. omega arith)) w
 sent Ordered Ordered n now c x p i e w = own_front Ordered n now c x p (with_ring Ordered (under_way_after Ordered c) x p) e refl (le_refl _) w
 sent Unordered Ordered n now c x p i e w =
     let less : suc (ordered_rest (under_way_after Ordered c) x) ≡ length (up_to_end (c ∷ x)) =
-    ap suc (bool_case (λ b. ordered_rest (if b then Idle else Sending Ordered) x ≡ length (if b then [] else up_to_end x)) c.ending (λ _. refl) (λ _. refl)) in
+    ap suc (bool_case (λ b. ordered_rest (when b then Idle else Sending Ordered) x ≡ length (when b then [] else up_to_end x)) c.ending (λ _. refl) (λ _. refl)) in
     inr (w, rw (held n p.under_way p.unordered i w, e) (omega arith))
 sent Ordered Unordered n now c x p i e w = inr (w, omega (arith, ap length e))
 
@@ -281,9 +281,9 @@ bound {room} l n (k ∷ ks) s v w h d =
 -- a first fragment that stands before the end is among those up to it
 among : (n a : ℕ) (l : List Chunk) → before n l ≤ a → a < length l → Waits n (take (suc a) l)
 among n a [] h k = absurd (omega arith)
-among n zero (c ∷ l) h k = bool_case (λ b. (if b then 0 else suc (before n l)) ≤ 0 → (b ≡ true) ⊎ ⊥) (is_start n c) (λ _ _. inl refl) (λ _ g. absurd (omega arith)) h
+among n zero (c ∷ l) h k = bool_case (λ b. (when b then 0 else suc (before n l)) ≤ 0 → (b ≡ true) ⊎ ⊥) (is_start n c) (λ _ _. inl refl) (λ _ g. absurd (omega arith)) h
 among n (suc a) (c ∷ l) h k =
-    bool_case (λ b. (if b then 0 else suc (before n l)) ≤ suc a → (b ≡ true) ⊎ Waits n (take (suc a) l)) (is_start n c) (λ _ _. inl refl) (λ _ g. inr (among n a l (omega arith) (omega arith))) h
+    bool_case (λ b. (when b then 0 else suc (before n l)) ≤ suc a → (b ≡ true) ⊎ Waits n (take (suc a) l)) (is_start n c) (λ _ _. inl refl) (λ _ g. inr (among n a l (omega arith) (omega arith))) h
 
 -- no condition
 throughout : (room : Room) (ks : List Call) (s : Sender) → Throughout room (λ k s. Unit {0}) ks s

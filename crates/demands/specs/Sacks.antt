@@ -5,7 +5,7 @@ use Rattle.limits.specs.Refusals.{bad_sack, bad_block}
 use Rattle.model.specs.declared.Block.{Block}
 use Rattle.model.specs.declared.Chunk.{Chunk}
 use Rattle.model.specs.declared.Sacked.{Sacked}
-use Rattle.model.specs.Lists.{if◌then◌else◌, some_of, total}
+use Rattle.model.specs.Lists.{when◌then◌else◌, some_of, total}
 use Rattle.model.specs.State.{Sender, Flight}
 use Rattle.model.specs.Rings.{bytes}
 use Rattle.model.specs.Flight.{acknowledged}
@@ -22,7 +22,7 @@ inside i b = leb b.start i && leb i b.end
 -- the entries from offset i on, of which those that a block covers are acknowledged
 abbrev pub gapped : List Block → (i : ℕ) → List Chunk → List Chunk
 gapped bs i [] = []
-gapped bs i (c ∷ l) = (if some_of (inside i) bs then acknowledged c else c) ∷ gapped bs (suc i) l
+gapped bs i (c ∷ l) = (when some_of (inside i) bs then acknowledged c else c) ∷ gapped bs (suc i) l
 
 -- k entries go, and of the others those that a block covers are acknowledged
 abbrev pub sacked_flight : (k : ℕ) → List Block → Flight → Flight

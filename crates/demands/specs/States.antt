@@ -1,5 +1,5 @@
 -- What holds of every state that calls reach: 01's conditions that cannot fail, on which the code leans.
-use Rattle.std.specs.Prelude.{ℕ, ◌+◌, ◌≤◌, ◌<◌, ◌≡◌, ◌≢◌, ◌⊎◌, Bool, true, false, not, List, [], ◌∷◌, ◌++◌, length}
+use Rattle.std.specs.Prelude.{ℕ, ◌≤◌, ◌<◌, ◌≡◌, ◌≢◌, ◌⊎◌, Bool, true, false, not, List, [], ◌∷◌, ◌++◌, length}
 use Rattle.std.proofs.Math.Option.{Option, none, some}
 use Rattle.limits.specs.Limits.{Room}
 use Rattle.limits.specs.declared.Moment.{Moment}
@@ -8,7 +8,7 @@ use Rattle.model.specs.declared.Chunk.{Chunk}
 use Rattle.model.specs.declared.Message.{Message}
 use Rattle.model.specs.declared.Stream.{Stream}
 use Rattle.model.specs.declared.Lane.{Lane}
-use Rattle.model.specs.Lists.{if◌then◌else◌, keep}
+use Rattle.model.specs.Lists.{when◌then◌else◌, keep}
 use Rattle.model.specs.State.{Sender, Numbers, fresh, at, lane_of, is_of}
 use Rattle.model.specs.Streams.{find}
 use Rattle.model.specs.Messages.{is_dcep}
@@ -63,7 +63,7 @@ pub record FlightEntry (l : List Stream) (n : Numbers) (c : Chunk) : Type 0 wher
 -- message is under way
 abbrev pub Behind : (under_way : Option ℕ) → Chunk → List Chunk → Type 0
 Behind w c [] = (c.ending ≡ true) ⊎ (w ≡ some c.message.number)
-Behind w c (d ∷ f) = if c.ending then keep (is_of c.message.number) (d ∷ f) ≡ [] else (d.message ≡ c.message) × (d.beginning ≡ false)
+Behind w c (d ∷ f) = when c.ending then keep (is_of c.message.number) (d ∷ f) ≡ [] else (d.message ≡ c.message) × (d.beginning ≡ false)
 
 -- so a message's entries, the terminator included, are contiguous, and every message that is not under way ends
 abbrev pub Contiguous : (under_way : Option ℕ) → List Chunk → Type 0
@@ -78,7 +78,7 @@ Ascending n (c ∷ l) = (n ≤ c.message.number) × Ascending c.message.number l
 -- the list behind its leading run of a message's chunks
 abbrev pub drop_run : (number : ℕ) → List Chunk → List Chunk
 drop_run n [] = []
-drop_run n (c ∷ l) = if is_of n c then drop_run n l else (c ∷ l)
+drop_run n (c ∷ l) = when is_of n c then drop_run n l else (c ∷ l)
 
 -- a chunk of a message is in the list
 abbrev pub Has : (number : ℕ) → List Chunk → Type 0

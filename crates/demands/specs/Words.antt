@@ -10,7 +10,7 @@ use Rattle.model.specs.declared.Lane.TheVariants.{Unordered, Ordered}
 use Rattle.model.specs.declared.UnderWay.{UnderWay}
 use Rattle.model.specs.declared.UnderWay.TheVariants.{Idle, Sending}
 use Rattle.model.specs.declared.Written.{Written}
-use Rattle.model.specs.Lists.{if◌then◌else◌, keep, last}
+use Rattle.model.specs.Lists.{when◌then◌else◌, keep, last}
 use Rattle.model.specs.State.{Sender, Pending, at, in_flight, is_of}
 use Rattle.model.specs.Streams.{find}
 use Rattle.model.specs.Messages.{piece, is_unordered, write}
@@ -58,7 +58,7 @@ pub record Follows (p c : Chunk) : Type 0 where
 
 -- what must come behind a chunk: nothing more of its message, or its next fragment
 abbrev pub behind : Chunk → Option Chunk
-behind c = if c.ending then none else some c
+behind c = when c.ending then none else some c
 
 -- exactly the fragments still to come, up to the ending one
 abbrev pub Remaining : Option Chunk → List Chunk → Type 0
@@ -83,7 +83,7 @@ Each P (x ∷ l) = P x × Each P l
 -- the chunks up to the first ending one, and that one
 abbrev pub up_to_end : List Chunk → List Chunk
 up_to_end [] = []
-up_to_end (c ∷ l) = c ∷ (if c.ending then [] else up_to_end l)
+up_to_end (c ∷ l) = c ∷ (when c.ending then [] else up_to_end l)
 
 -- what is still to be sent of it
 abbrev pub rest_in : UnderWay → Pending → List Chunk
@@ -111,11 +111,11 @@ SomePending s = 0 < length s.pending.unordered + length s.pending.ordered
 -- the message that a call abandons
 abbrev pub abandons_entry : Option Chunk → Option ℕ
 abandons_entry none = none
-abandons_entry (some c) = if c.abandoned then none else some c.message.number
+abandons_entry (some c) = when c.abandoned then none else some c.message.number
 
 abbrev pub passing : (Chunk → Bool) → Option Chunk → Option ℕ
 passing p none = none
-passing p (some c) = if p c then some c.message.number else none
+passing p (some c) = when p c then some c.message.number else none
 
 abbrev pub abandons : Call → Sender → Option ℕ
 abandons (Open id m) s = none
@@ -127,7 +127,7 @@ abandons (Release id r) s = none
 abandons (StartLifetimes now) s = none
 abandons (Send now) s = none
 abandons (ExpirePending now) s = none
-abandons (ExpirePendingTail now) s = if ltb clock_max now then none else passing (tail_expires now) (head s.pending)
+abandons (ExpirePendingTail now) s = when ltb clock_max now then none else passing (tail_expires now) (head s.pending)
 abandons (Abandon t) s = abandons_entry (in_flight t s.flight)
 abandons (Acknowledge t) s = none
 abandons (Pop t) s = none
@@ -144,7 +144,7 @@ expires_message (Write id p o l) s = none
 expires_message (Release id r) s = none
 expires_message (StartLifetimes now) s = none
 expires_message (Send now) s = none
-expires_message (ExpirePending now) s = if ltb clock_max now then none else passing (expires now) (head s.pending)
+expires_message (ExpirePending now) s = when ltb clock_max now then none else passing (expires now) (head s.pending)
 expires_message (ExpirePendingTail now) s = none
 expires_message (Abandon t) s = none
 expires_message (Acknowledge t) s = none
@@ -193,7 +193,7 @@ Waits n (c ∷ l) = (is_start n c ≡ true) ⊎ Waits n l
 -- how many chunks stand before the first fragment of a message: all, if it is not there
 abbrev pub before : (number : ℕ) → List Chunk → ℕ
 before n [] = 0
-before n (c ∷ l) = if is_start n c then 0 else suc (before n l)
+before n (c ∷ l) = when is_start n c then 0 else suc (before n l)
 
 -- the rest of the message under way, where it is not in the unordered ring itself
 abbrev pub ordered_rest : UnderWay → List Chunk → ℕ

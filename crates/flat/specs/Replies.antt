@@ -19,7 +19,7 @@ use Rattle.model.specs.declared.Amount.{Amount}
 use Rattle.model.specs.declared.Laid.{Laid}
 use Rattle.model.specs.declared.Counted.{Counted}
 use Rattle.model.specs.declared.Sacked as Model
-use Rattle.model.specs.Lists.{if◌then◌else◌}
+use Rattle.model.specs.Lists.{when◌then◌else◌}
 use Rattle.model.specs.Told.{chunk_values, told_done, told_written, told_released, told_listed, told_earliest, told_amount, told_counted, told_sent, told_found, told_expired, told_tail, told_abandoned, told_sacked, told_laid}
 use Rattle.flat.specs.declared.Reply.{Reply}
 use Rattle.flat.specs.declared.Freed.{Freed}
@@ -104,7 +104,7 @@ fragment_in tsn t =
       offset = value_at 9 t;
       deadline = value_at 8 t;
       since = value_at 14 t;
-      tsn = if given t then tsn else 0;
+      tsn = when given t then tsn else 0;
       length = value_at 10 t;
       protocol = value_at 3 t;
       value = value_at 6 t;

@@ -4,17 +4,16 @@
 
 ghost use Rattle.std.specs.Prelude.{◌+◌, ◌≤◌, ◌<◌};
 
-use libc::STDOUT_FILENO;
 use limits::Moment;
 
 // ---- the buffer
 
-pub fn byte(out: &mut [u8], at: usize, letter: u8) -> usize {
+pub fn byte(rt: &impl Print, out: &mut [u8], at: usize, letter: u8) -> usize {
     if at < out.len() {
         out[at] = letter;
         return at + 1;
     }
-    io::write_all(STDOUT_FILENO, out);
+    let _ = rt.write_all(out);
     if 0 < out.len() {
         out[0] = letter;
         return 1;
@@ -23,29 +22,29 @@ pub fn byte(out: &mut [u8], at: usize, letter: u8) -> usize {
 }
 
 // What stands before the place is written out.
-pub fn flush(out: &[u8], at: usize) {
+pub fn flush(rt: &impl Print, out: &[u8], at: usize) {
     if at <= out.len() {
-        io::write_all(STDOUT_FILENO, &out[0..at]);
+        let _ = rt.write_all(&out[0..at]);
     }
 }
 
-pub fn text(out: &mut [u8], at: usize, words: &[u8]) -> usize {
+pub fn text(rt: &impl Print, out: &mut [u8], at: usize, words: &[u8]) -> usize {
     let mut place = at;
     let mut i = 0;
     while i < words.len() {
-        place = byte(out, place, words[i]);
+        place = byte(rt, out, place, words[i]);
         i += 1;
     }
     place
 }
 
-pub fn line(out: &mut [u8], at: usize) -> usize {
-    byte(out, at, b'\n')
+pub fn line(rt: &impl Print, out: &mut [u8], at: usize) -> usize {
+    byte(rt, out, at, b'\n')
 }
 
 // ---- numbers
 
-fn decimal(out: &mut [u8], at: usize, n: u64) -> usize {
+fn decimal(rt: &impl Print, out: &mut [u8], at: usize, n: u64) -> usize {
     let mut digits = [0u8; 20];
     let mut rest = n;
     let mut i: usize = 20;
@@ -54,29 +53,54 @@ fn decimal(out: &mut [u8], at: usize, n: u64) -> usize {
         digits[i] = 48 + (rest % 10) as u8;
         rest /= 10;
         if rest == 0 {
-            return text(out, at, &digits[i..20]);
+            return text(rt, out, at, &digits[i..20]);
         }
     }
     at
 }
 
-pub fn number(out: &mut [u8], at: usize, label: &[u8], n: u64) -> usize {
-    let place = text(out, at, label);
-    decimal(out, place, n)
+pub fn number(rt: &impl Print, out: &mut [u8], at: usize, label: &[u8], n: u64) -> usize {
+    let place = text(rt, out, at, label);
+    decimal(rt, out, place, n)
 }
 
-// So many digits, zeros in front.
-pub fn hexadecimal(out: &mut [u8], at: usize, n: u64, width: usize) -> usize {
+fn hexadecimal_digit(n: u8) -> u8
+    requires { n < 16 }
+{
+    if n < 10 {
+        return b'0' + n;
+    }
+    b'a' - 10 + n
+}
+
+// So many digits, zeros in front: at least one and at most sixteen, but never fewer than the number has.
+pub fn hexadecimal(rt: &impl Print, out: &mut [u8], at: usize, n: u64, width: usize) -> usize {
     let mut digits = [0u8; 16];
-    let count = io::hex(n, width, &mut digits);
-    text(out, at, &digits[..count])
+    let mut rest = n;
+    let mut i: usize = 16;
+    while i > 0 {
+        i -= 1;
+        digits[i] = hexadecimal_digit((rest % 16) as u8);
+        rest /= 16;
+        if rest == 0 && width <= 16 - i {
+            return text(rt, out, at, &digits[i..16]);
+        }
+    }
+    text(rt, out, at, &digits)
 }
 
 // The i-th of the numbers, behind a `=`.
-fn value(out: &mut [u8], at: usize, letter: u8, values: &[u64], i: usize) -> usize {
+fn value(
+    rt: &impl Print,
+    out: &mut [u8],
+    at: usize,
+    letter: u8,
+    values: &[u64],
+    i: usize,
+) -> usize {
     if letter == b'=' {
         if i < values.len() {
-            return decimal(out, at, values[i]);
+            return decimal(rt, out, at, values[i]);
         }
     }
     at
@@ -93,14 +117,20 @@ fn next_value(letter: u8, i: usize) -> usize
 }
 
 // The pattern, with the next of the numbers behind each `=`.
-pub fn numbers(out: &mut [u8], at: usize, pattern: &[u8], values: &[u64]) -> usize {
+pub fn numbers(
+    rt: &impl Print,
+    out: &mut [u8],
+    at: usize,
+    pattern: &[u8],
+    values: &[u64],
+) -> usize {
     let mut place = at;
     let mut next = 0;
     let mut i = 0;
     while i < pattern.len() {
         let letter = pattern[i];
-        place = byte(out, place, letter);
-        place = value(out, place, letter, values, next);
+        place = byte(rt, out, place, letter);
+        place = value(rt, out, place, letter, values, next);
         next = next_value(letter, next);
         i += 1;
     }
@@ -108,29 +138,29 @@ pub fn numbers(out: &mut [u8], at: usize, pattern: &[u8], values: &[u64]) -> usi
 }
 
 // A missing moment is a dash.
-pub fn moment(out: &mut [u8], at: usize, label: &[u8], time: Moment) -> usize {
-    let place = text(out, at, label);
+pub fn moment(rt: &impl Print, out: &mut [u8], at: usize, label: &[u8], time: Moment) -> usize {
+    let place = text(rt, out, at, label);
     match time {
-        Moment::Absent => byte(out, place, b'-'),
-        Moment::At(clock) => decimal(out, place, clock),
+        Moment::Absent => byte(rt, out, place, b'-'),
+        Moment::At(clock) => decimal(rt, out, place, clock),
     }
 }
 
 // ---- the answers that many calls share
 
-pub fn done(out: &mut [u8], at: usize) -> usize {
-    text(out, at, b"ok\n")
+pub fn done(rt: &impl Print, out: &mut [u8], at: usize) -> usize {
+    text(rt, out, at, b"ok\n")
 }
 
-pub fn none(out: &mut [u8], at: usize) -> usize {
-    text(out, at, b"none\n")
+pub fn none(rt: &impl Print, out: &mut [u8], at: usize) -> usize {
+    text(rt, out, at, b"none\n")
 }
 
-pub fn bad(out: &mut [u8], at: usize) -> usize {
-    text(out, at, b"bad\n")
+pub fn bad(rt: &impl Print, out: &mut [u8], at: usize) -> usize {
+    text(rt, out, at, b"bad\n")
 }
 
-pub fn refusal(out: &mut [u8], at: usize, n: u8) -> usize {
-    let place = number(out, at, b"R ", n as u64);
-    line(out, place)
+pub fn refusal(rt: &impl Print, out: &mut [u8], at: usize, n: u8) -> usize {
+    let place = number(rt, out, at, b"R ", n as u64);
+    line(rt, out, place)
 }

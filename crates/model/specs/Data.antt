@@ -7,7 +7,7 @@ use Rattle.octets.specs.Numbers.{byte_at, short_at, long_at, short_bytes, long_b
 use Rattle.model.specs.declared.Chunk.{Chunk}
 use Rattle.model.specs.declared.Data.{Data}
 use Rattle.model.specs.declared.Laid.{Laid}
-use Rattle.model.specs.Lists.{if◌then◌else◌}
+use Rattle.model.specs.Lists.{when◌then◌else◌}
 use Rattle.model.specs.State.{Sender, in_flight}
 use Rattle.model.specs.Messages.{flags}
 use Rattle.model.specs.Flight.{outstanding}
@@ -40,17 +40,17 @@ unwritten n out = record { answer = Laid.Refused n; out = out }
 
 -- 17, or the chunk stands in front, and the bytes behind it stay
 abbrev pub laid_out : (chunk out : List ℕ) → Output
-laid_out l out = if ltb (length out) (length l) then unwritten output_short out else record { answer = Laid.Bytes (length l); out = l ++ drop (length l) out }
+laid_out l out = when ltb (length out) (length l) then unwritten output_short out else record { answer = Laid.Bytes (length l); out = l ++ drop (length l) out }
 
 -- ---- write the DATA chunk of a TSN: 15, 16, 17
 
 abbrev pub data_laid : (tsn : ℕ) → Chunk → (bytes out : List ℕ) → Output
-data_laid t c l out = if ltb (length l) (c.offset + c.length) then unwritten payload_outside out else laid_out (data_bytes t c l) out
+data_laid t c l out = when ltb (length l) (c.offset + c.length) then unwritten payload_outside out else laid_out (data_bytes t c l) out
 
 -- of an entry that is neither acknowledged nor abandoned
 abbrev pub data_of_entry : Option Chunk → (tsn : ℕ) → (bytes out : List ℕ) → Output
 data_of_entry none t l out = unwritten no_entry out
-data_of_entry (some c) t l out = if outstanding c then data_laid t c l out else unwritten no_entry out
+data_of_entry (some c) t l out = when outstanding c then data_laid t c l out else unwritten no_entry out
 
 unfoldable pub data_chunk : (tsn : ℕ) → (bytes out : List ℕ) → Sender → Output
 data_chunk t l out s = data_of_entry (in_flight t s.flight) t l out
@@ -65,7 +65,7 @@ abbrev pub fields_of : List ℕ → Data
 fields_of p = Data.Chunk (long_at 4 p) (short_at 8 p) (short_at 10 p) (byte_at 1 p) (long_at 12 p) (short_at 2 p - 16)
 
 abbrev pub read_data : List ℕ → Data
-read_data p = if is_data p then fields_of p else Data.Other
+read_data p = when is_data p then fields_of p else Data.Other
 
 -- its payload
 abbrev pub payload_in : List ℕ → List ℕ

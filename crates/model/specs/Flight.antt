@@ -1,11 +1,11 @@
 -- Document 01, "Flight": acknowledging, popping, marking, and what is asked of the flight and the rings.
-use Rattle.std.specs.Prelude.{ℕ, ◌+◌, ◌%◌, Bool, true, false, not, ◌||◌, List, [], ◌∷◌, map, length, eqb}
+use Rattle.std.specs.Prelude.{ℕ, ◌+◌, ◌%◌, Bool, true, false, not, ◌||◌, List, [], ◌∷◌, map, eqb}
 use Rattle.std.proofs.Math.Option.{Option, none, some}
 use Rattle.limits.specs.Limits.{tsns}
 use Rattle.model.specs.declared.Chunk.{Chunk}
 use Rattle.model.specs.declared.Found.{Found}
 use Rattle.model.specs.declared.Earliest.{Earliest}
-use Rattle.model.specs.Lists.{if◌then◌else◌, some_of, adjust}
+use Rattle.model.specs.Lists.{when◌then◌else◌, some_of, adjust}
 use Rattle.model.specs.State.{Sender, with_entries, place, in_flight, Out, same}
 use Rattle.model.specs.Rings.{marked, tsns_of}
 
@@ -30,7 +30,7 @@ found (some c) = Found.One c
 abbrev pub popping : List Chunk → (tsn : ℕ) → Sender → Out Found
 popping [] t s = same Found.Nothing s
 popping (c ∷ f) t s =
-    if eqb t s.flight.oldest then
+    when eqb t s.flight.oldest then
     record {
       after = record { streams = s.streams; pending = s.pending; flight = record { oldest = (s.flight.oldest + 1) % tsns; entries = f }; numbers = s.numbers };
       says = Found.One c;

@@ -2,15 +2,15 @@
 use Rattle.std.specs.Prelude.{ℕ, zero, suc, ◌+◌, Bool, true, false, ◌||◌, List, [], ◌∷◌}
 use Rattle.std.proofs.Math.Option.{Option, none, some}
 
-infixr 0 if◌then◌else◌
-abbrev pub if◌then◌else◌ {ℓ} : {A : Type ℓ} → Bool → A → A → A
-if true then a else b = a
-if false then a else b = b
+infixr 0 when◌then◌else◌
+abbrev pub when◌then◌else◌ {ℓ} : {A : Type ℓ} → Bool → A → A → A
+when true then a else b = a
+when false then a else b = b
 
 -- the elements that pass a test
 abbrev pub keep {ℓ} : {A : Type ℓ} → (A → Bool) → List A → List A
 keep p [] = []
-keep p (x ∷ xs) = if p x then (x ∷ keep p xs) else keep p xs
+keep p (x ∷ xs) = when p x then (x ∷ keep p xs) else keep p xs
 
 -- whether one passes it
 abbrev pub some_of {ℓ} : {A : Type ℓ} → (A → Bool) → List A → Bool

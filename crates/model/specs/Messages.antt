@@ -9,7 +9,7 @@ use Rattle.model.specs.declared.Message.{Message}
 use Rattle.model.specs.declared.Statistics.{Statistics}
 use Rattle.model.specs.declared.Stream.{Stream}
 use Rattle.model.specs.declared.Written.{Written}
-use Rattle.model.specs.Lists.{if◌then◌else◌}
+use Rattle.model.specs.Lists.{when◌then◌else◌}
 use Rattle.model.specs.Records.{new_message}
 pub use Rattle.model.specs.Records.{piece}
 use Rattle.model.specs.State.{Sender, Numbers, with_streams, with_pending, with_numbers, at, lane_of, with_ring, Out, same}
@@ -29,7 +29,7 @@ cut x b (suc (suc n)) m o l = piece x b false o m ∷ cut x false (suc n) m (o +
 
 -- the flags octet of RFC 9260: E 1, B 2, U 4
 abbrev pub flags : Chunk → ℕ
-flags c = (if c.ending then 1 else 0) + (if c.beginning then 2 else 0) + (if c.message.unordered then 4 else 0)
+flags c = (when c.ending then 1 else 0) + (when c.beginning then 2 else 0) + (when c.message.unordered then 4 else 0)
 
 -- payload type 50
 abbrev pub is_dcep : (protocol : ℕ) → Bool
@@ -56,14 +56,14 @@ ssn_after false n = (n + 1) % ssns
 
 -- the counters stop at 2 ^ 64 - 1
 abbrev pub saturated : ℕ → ℕ
-saturated n = if leb n number_max then n else number_max
+saturated n = when leb n number_max then n else number_max
 
 -- of a queued message, types 51 and 53 count one message and its bytes, 56 and 57 one message and 0 bytes, others nothing
 abbrev pub counted_by : (protocol length : ℕ) → Statistics → Statistics
 counted_by p zero x = x
 counted_by p (suc l) x =
-    if eqb p 51 || eqb p 53 then record { messages = saturated (x.messages + 1); bytes = saturated (x.bytes + suc l) } else
-    if eqb p 56 || eqb p 57 then record { messages = saturated (x.messages + 1); bytes = x.bytes } else x
+    when eqb p 51 || eqb p 53 then record { messages = saturated (x.messages + 1); bytes = saturated (x.bytes + suc l) } else
+    when eqb p 56 || eqb p 57 then record { messages = saturated (x.messages + 1); bytes = x.bytes } else x
 
 abbrev pub written : (protocol length : ℕ) → Stream → Stream
 written p l t = accounted (ssn_after (is_unordered p t) t.ssn) (t.buffered + l) (counted_by p l t.statistics) t
@@ -89,11 +89,11 @@ accepted p o l t s =
 abbrev pub writing : Option Stream → Room → (protocol offset length : ℕ) → Sender → Out Written
 writing none room p o l s = same (Written.Refused not_open) s
 writing (some t) room p o l s =
-    if ltb room.message l then same (Written.Refused message_long) s else
-    if ltb offset_max o then same (Written.Refused beyond_limit) s else
-    if ltb buffered_max (t.buffered + l) then same (Written.Refused buffer_full) s else
-    if ltb room.ring (length (at (lane_of (is_unordered p t)) s.pending) + pieces l t.maximum) then same (Written.Refused ring_full) s else
-    if leb 1 (pieces l t.maximum) && eqb s.numbers.next number_max then same (Written.Refused numbers_spent) s else
+    when ltb room.message l then same (Written.Refused message_long) s else
+    when ltb offset_max o then same (Written.Refused beyond_limit) s else
+    when ltb buffered_max (t.buffered + l) then same (Written.Refused buffer_full) s else
+    when ltb room.ring (length (at (lane_of (is_unordered p t)) s.pending) + pieces l t.maximum) then same (Written.Refused ring_full) s else
+    when leb 1 (pieces l t.maximum) && eqb s.numbers.next number_max then same (Written.Refused numbers_spent) s else
     record { after = accepted p o l t s; says = Written.Accepted (ltb t.buffered t.high && leb t.high (t.buffered + l)) }
 
 unfoldable pub write : Room → (identifier protocol offset length : ℕ) → Sender → Out Written

@@ -3,7 +3,7 @@ use Rattle.std.specs.Prelude.{ℕ, ◌-◌, List, [], ◌∷◌, ◌++◌, lengt
 use Rattle.limits.specs.Limits.{Room}
 use Rattle.model.specs.declared.Block.{Block}
 use Rattle.model.specs.declared.Sacked.{Sacked}
-use Rattle.model.specs.Lists.{if◌then◌else◌}
+use Rattle.model.specs.Lists.{when◌then◌else◌}
 use Rattle.model.specs.State.{Sender, Out}
 use Rattle.model.specs.Calls.{Call, Answer, told, step}
 use Rattle.model.specs.Sack.{cumulative_of, is_sack, blocks_in, all_within}
@@ -35,11 +35,11 @@ replies room (r ∷ rs) s = (serve room r s).says ∷ replies room rs (serve roo
 
 abbrev pub sack_singles : (cumulative : ℕ) → List Block → Sender → List Call
 sack_singles t l s =
-    if is_stale t s.flight then [] else if all_within (length s.flight.entries - covered t s.flight) l then sack_calls t l s.flight else []
+    when is_stale t s.flight then [] else when all_within (length s.flight.entries - covered t s.flight) l then sack_calls t l s.flight else []
 
 abbrev pub singles : Request → Sender → List Call
 singles (Single k) s = k ∷ []
-singles (ReadSack p) s = if is_sack p then sack_singles (cumulative_of p) (blocks_in p) s else []
+singles (ReadSack p) s = when is_sack p then sack_singles (cumulative_of p) (blocks_in p) s else []
 
 -- those of all requests, each in the state that the ones before leave
 abbrev pub all_singles : Room → List Request → Sender → List Call

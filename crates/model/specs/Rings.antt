@@ -17,7 +17,7 @@ use Rattle.model.specs.declared.Sent.{Sent}
 use Rattle.model.specs.declared.Expired.{Expired}
 use Rattle.model.specs.declared.TailExpired.{TailExpired}
 use Rattle.model.specs.declared.Abandoned.{Abandoned}
-use Rattle.model.specs.Lists.{if◌then◌else◌, keep, some_of, first, last, total}
+use Rattle.model.specs.Lists.{when◌then◌else◌, keep, some_of, first, last, total}
 use Rattle.model.specs.Records.{flagged, sent_as}
 pub use Rattle.model.specs.Records.{with_message, renewed, marked}
 use Rattle.model.specs.State.{Sender, Pending, with_streams, with_pending, with_entries, with_numbers, at, in_rings, with_ring, next_tsn, in_flight, is_of, Out, same}
@@ -45,7 +45,7 @@ has_lifetime x = eqb x.reliability.kind 2 && not (is_dcep x.protocol)
 
 -- a message not yet seen gets its deadline
 abbrev pub begun : (now unstarted : ℕ) → Message → Message
-begun now k x = if leb k x.number && has_lifetime x then renewed x.ssn (At (now + x.reliability.value)) x else x
+begun now k x = when leb k x.number && has_lifetime x then renewed x.ssn (At (now + x.reliability.value)) x else x
 
 abbrev pub started : (now unstarted : ℕ) → Chunk → Chunk
 started now k c = with_message (begun now k c.message) c
@@ -55,7 +55,7 @@ abbrev pub ssn_before : ℕ → ℕ
 ssn_before n = (n + (ssns - 1)) % ssns
 
 abbrev pub lowered : (stream : ℕ) → Chunk → Chunk
-lowered id c = if eqb c.message.stream id then with_message (renewed (ssn_before c.message.ssn) c.message.deadline c.message) c else c
+lowered id c = when eqb c.message.stream id then with_message (renewed (ssn_before c.message.ssn) c.message.deadline c.message) c else c
 
 -- ---- starting lifetimes: 1
 
@@ -67,7 +67,7 @@ with_lifetimes now s =
 
 unfoldable pub start_lifetimes : (now : ℕ) → Sender → Out Done
 start_lifetimes now s =
-    if ltb clock_max now then same (Done.Refused beyond_limit) s else
+    when ltb clock_max now then same (Done.Refused beyond_limit) s else
     record { after = with_lifetimes now s; says = Done.Done }
 
 -- ---- send: 1; nothing on empty rings; 10
@@ -78,7 +78,7 @@ sent_at now c = sent_as (At now) 1 c
 
 -- a non-ending fragment puts its message under way, an ending one ends that
 abbrev pub under_way_after : Lane → Chunk → UnderWay
-under_way_after l c = if c.ending then Idle else Sending l
+under_way_after l c = when c.ending then Idle else Sending l
 
 -- the front c of the ring l goes to the flight, and x is the rest of the ring
 abbrev pub taken : Lane → (now : ℕ) → Chunk → List Chunk → Sender → Sender
@@ -90,12 +90,12 @@ taken l now c x s =
 abbrev pub sending : Lane → List Chunk → Room → (now : ℕ) → (s s' : Sender) → Out Sent
 sending l [] room now s s' = same Sent.Nothing s'
 sending l (c ∷ x) room now s s' =
-    if leb room.flight (suc (length s.flight.entries)) then same (Sent.Refused flight_full) s else
+    when leb room.flight (suc (length s.flight.entries)) then same (Sent.Refused flight_full) s else
     record { after = taken l now c x s'; says = Sent.Yielded (next_tsn s) (sent_at now c) }
 
 unfoldable pub send : Room → (now : ℕ) → Sender → Out Sent
 send room now s =
-    if ltb clock_max now then same (Sent.Refused beyond_limit) s else
+    when ltb clock_max now then same (Sent.Refused beyond_limit) s else
     let p = (with_lifetimes now s).pending in sending (head_lane p) (at (head_lane p) p) room now s (with_lifetimes now s)
 
 -- ---- a message leaves the rings
@@ -110,7 +110,7 @@ bytes l = total (λ c. c.length) l
 -- removing the message under way, whose front is the head, ends that
 abbrev pub ended : (number : ℕ) → (head : Option Chunk) → UnderWay → UnderWay
 ended n none w = w
-ended n (some c) w = if is_of n c then Idle else w
+ended n (some c) w = when is_of n c then Idle else w
 
 -- all chunks of the message go
 abbrev pub without : (number : ℕ) → Pending → Pending
@@ -143,7 +143,7 @@ abbrev pub expiring : Option Chunk → (now : ℕ) → Sender → Out Expired
 expiring none now s = same Expired.Nothing s
 expiring (some c) now s =
     let x = c.message in
-    if expires now c then
+    when expires now c then
     record {
       after = compacted x.unordered x.stream (with_pending (without x.number s.pending) s);
       says = Expired.Message x.stream x.unordered (bytes (pending_of x.number s.pending));
@@ -151,13 +151,13 @@ expiring (some c) now s =
     else same Expired.Nothing s
 
 unfoldable pub expire_pending : (now : ℕ) → Sender → Out Expired
-expire_pending now s = if ltb clock_max now then same (Expired.Refused beyond_limit) s else expiring (head s.pending) now s
+expire_pending now s = when ltb clock_max now then same (Expired.Refused beyond_limit) s else expiring (head s.pending) now s
 
 -- ---- abandoning a message
 
 -- its flight entries: abandoned, not to retransmit, and they hold nothing
 abbrev pub given_up : (number : ℕ) → Chunk → Chunk
-given_up n c = if is_of n c then marked 0 c.acked true false c else c
+given_up n c = when is_of n c then marked 0 c.acked true false c else c
 
 -- the last removed chunk's fields, no bytes, B off, E on, abandoned, not to retransmit, since absent, nsent 0
 abbrev pub terminator : Chunk → Chunk
@@ -183,7 +183,7 @@ abbrev pub abandoning : Option Chunk → Sender → Out Abandoned
 abandoning none s = same Abandoned.Nothing s
 abandoning (some c) s =
     let x = c.message in
-    if c.abandoned then same (Abandoned.Message x.stream 0) s else
+    when c.abandoned then same (Abandoned.Message x.stream 0) s else
     record { after = abandoned x.number s; says = Abandoned.Message x.stream (held_by x.number s) }
 
 unfoldable pub abandon : (tsn : ℕ) → Sender → Out Abandoned
@@ -198,12 +198,12 @@ abbrev pub tail_expiring : Option Chunk → (now : ℕ) → Sender → Out TailE
 tail_expiring none now s = same TailExpired.Nothing s
 tail_expiring (some c) now s =
     let x = c.message in
-    if tail_expires now c then
+    when tail_expires now c then
     record { after = abandoned x.number s; says = TailExpired.Message x.stream x.number (held_by x.number s) }
     else same TailExpired.Nothing s
 
 unfoldable pub expire_pending_tail : (now : ℕ) → Sender → Out TailExpired
-expire_pending_tail now s = if ltb clock_max now then same (TailExpired.Refused beyond_limit) s else tail_expiring (head s.pending) now s
+expire_pending_tail now s = when ltb clock_max now then same (TailExpired.Refused beyond_limit) s else tail_expiring (head s.pending) now s
 
 -- ---- expired_inflight: 1, 11. Oldest first, each TSN not abandoned, at or past its deadline, and unacknowledged or still pending
 
@@ -218,12 +218,12 @@ expired_entry now p c =
 -- the TSNs of the entries that pass a test, of entries from a TSN on
 abbrev pub tsns_of : (Chunk → Bool) → (tsn : ℕ) → List Chunk → List ℕ
 tsns_of p t [] = []
-tsns_of p t (c ∷ f) = if p c then (t ∷ tsns_of p ((t + 1) % tsns) f) else tsns_of p ((t + 1) % tsns) f
+tsns_of p t (c ∷ f) = when p c then (t ∷ tsns_of p ((t + 1) % tsns) f) else tsns_of p ((t + 1) % tsns) f
 
 abbrev pub listing : (room : ℕ) → List ℕ → Listing
-listing n l = if ltb n (length l) then refused list_short else tsns_are l
+listing n l = when ltb n (length l) then refused list_short else tsns_are l
 
 unfoldable pub expired_inflight : (now room : ℕ) → Sender → Listing
 expired_inflight now n s =
-    if ltb clock_max now then refused beyond_limit else
+    when ltb clock_max now then refused beyond_limit else
     listing n (tsns_of (expired_entry now s.pending) s.flight.oldest s.flight.entries)

@@ -44,7 +44,7 @@ use Rattle.model.specs.Calls.{
   run,
 }
 use Rattle.model.specs.Rings.{tsns_are, refused}
-use Rattle.model.specs.Lists.{if◌then◌else◌}
+use Rattle.model.specs.Lists.{when◌then◌else◌}
 use Rattle.model.specs.Sacks.{sack}
 use Rattle.model.specs.Data.{data_chunk}
 
@@ -60,7 +60,7 @@ abbrev pub chunk_row : Chunk → List ℕ
 chunk_row c = c.message.stream ∷ c.message.ssn ∷ flags c ∷ c.length ∷ []
 
 abbrev pub bit : Bool → ℕ
-bit b = if b then 1 else 0
+bit b = when b then 1 else 0
 
 -- an answer in a row: of a send 1, the TSN and the chunk; of a removal what it names; 0 for nothing; 99 and its number for a refusal
 abbrev pub sent_row : Sent → List ℕ

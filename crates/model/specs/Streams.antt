@@ -8,7 +8,7 @@ use Rattle.model.specs.declared.Done.{Done}
 use Rattle.model.specs.declared.Released.{Released}
 use Rattle.model.specs.declared.Amount.{Amount}
 use Rattle.model.specs.declared.Counted.{Counted}
-use Rattle.model.specs.Lists.{if◌then◌else◌}
+use Rattle.model.specs.Lists.{when◌then◌else◌}
 use Rattle.model.specs.Records.{new_stream}
 pub use Rattle.model.specs.Records.{delivering, thresholds, accounted}
 use Rattle.model.specs.State.{Sender, with_streams, Out, same}
@@ -17,12 +17,12 @@ use Rattle.model.specs.State.{Sender, with_streams, Out, same}
 
 abbrev pub find : (identifier : ℕ) → List Stream → Option Stream
 find id [] = none
-find id (t ∷ l) = if eqb t.identifier id then some t else find id l
+find id (t ∷ l) = when eqb t.identifier id then some t else find id l
 
 -- the stream with t's identifier becomes t
 abbrev pub put : Stream → List Stream → List Stream
 put t [] = []
-put t (x ∷ l) = if eqb x.identifier t.identifier then (t ∷ l) else (x ∷ put t l)
+put t (x ∷ l) = when eqb x.identifier t.identifier then (t ∷ l) else (x ∷ put t l)
 
 -- ---- open: 2, 4, 5
 
@@ -33,12 +33,12 @@ opened id m = new_stream id m 18446744073709551615
 abbrev pub open_new : Option Stream → Room → (identifier maximum : ℕ) → Sender → Out Done
 open_new (some t) room id m s = same (Done.Refused already_open) s
 open_new none room id m s =
-    if leb room.streams (length s.streams) then same (Done.Refused streams_full) s else
+    when leb room.streams (length s.streams) then same (Done.Refused streams_full) s else
     record { after = with_streams (s.streams ++ (opened id m ∷ [])) s; says = Done.Done }
 
 unfoldable pub open_stream : Room → (identifier maximum : ℕ) → Sender → Out Done
 open_stream room id m s =
-    if not (leb 1 m && leb m payload_max) then same (Done.Refused bad_bounds) s else open_new (find id s.streams) room id m s
+    when not (leb 1 m && leb m payload_max) then same (Done.Refused bad_bounds) s else open_new (find id s.streams) room id m s
 
 -- ---- reliability and the two thresholds: 3. Any values
 

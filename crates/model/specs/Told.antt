@@ -1,5 +1,5 @@
 -- Document 01, "What the caller hears": the number and the values of each case of the sender's answers. Promises, flat replies and tapes go by it.
-use Rattle.std.specs.Prelude.{ℕ, Bool, List, [], ◌∷◌, length}
+use Rattle.std.specs.Prelude.{ℕ, List, [], ◌∷◌, length}
 use Rattle.limits.specs.Flags.{bit_of}
 pub use Rattle.limits.specs.Told.{Told, tells, refusing, tells_flag, tells_number}
 use Rattle.limits.specs.Told.{moment_then}

@@ -12,7 +12,7 @@ use Rattle.model.specs.declared.Chunk.{Chunk}
 use Rattle.model.specs.declared.Found.{Found}
 use Rattle.model.specs.declared.Lane.{Lane}
 use Rattle.model.specs.declared.Lane.TheVariants.{Unordered, Ordered}
-use Rattle.model.specs.Lists.{if◌then◌else◌, keep, last}
+use Rattle.model.specs.Lists.{when◌then◌else◌, keep, last}
 use Rattle.model.specs.State.{Sender, Pending, Flight, Out, same, at, place, in_flight, is_of, with_pending}
 use Rattle.model.specs.Rings.{bytes, pending_of, without, given_up, terminator, terminators, abandoned, held_by, abandoning, abandon}
 use Rattle.model.specs.Flight.{found}
@@ -48,7 +48,7 @@ module _ (room : Room) (s : Sender) (n i : ℕ) (near : AllNear n i s.flight.ent
       → closed_by room.flight o (changed (map (given_up n)) s.flight) ≡ record { oldest = s.flight.oldest; entries = map (given_up n) s.flight.entries ++ terminators o }
   closed none e = ap (λ (l : List Chunk). record { oldest = s.flight.oldest; entries = l }) (sym (append-nil (map (given_up n) s.flight.entries)))
   closed (some c) e =
-      ap (λ (b : Bool). record { oldest = s.flight.oldest; entries = if b then map (given_up n) s.flight.entries ++ (terminator c ∷ []) else map (given_up n) s.flight.entries })
+      ap (λ (b : Bool). record { oldest = s.flight.oldest; entries = when b then map (given_up n) s.flight.entries ++ (terminator c ∷ []) else map (given_up n) s.flight.entries })
       (lt-ltb (length (map (given_up n) s.flight.entries)) room.flight (omega (arith, length-map s.flight.entries (given_up n), place-left c e)))
 
   pub lean_abandoned : leanly_abandoned room n i s ≡ abandoned n s
@@ -78,7 +78,7 @@ module _ {room : Room} {s : Sender} (g : Good room s) where
           let f = has_entry s.flight.entries i c e in
           let run = g.flight_run n f in
           let left : (d : Chunk) → last (pending_of n s.pending) ≡ some d → length s.flight.entries < room.flight = λ d q. let z = in_ring n s.pending d q in g.terminator_room n (g.partly z.0 n z.1 f) in
-          ap₂ (λ (a : Sender) (k : ℕ). if c.abandoned then same (Abandoned.Message c.message.stream 0) s else record { after = a; says = Abandoned.Message c.message.stream k })
+          ap₂ (λ (a : Sender) (k : ℕ). when c.abandoned then same (Abandoned.Message c.message.stream 0) s else record { after = a; says = Abandoned.Message c.message.stream k })
           (lean_abandoned room s n i near run left) (lean_held room s n i near run left)
 
 -- ---- what the code gives up: from `s` to `x` the run of the message's entries around `i` is marked, from `x` to `y` its pending chunks go, and from `y` to `z` a
@@ -131,7 +131,7 @@ module _ (room : Room) (t : ℕ) (s : Sender) where
     gives_up i = record { after = leanly_abandoned room c.message.number i s; says = Abandoned.Message c.message.stream (leanly_held c.message.number i s) }
 
     abbrev picks : Bool → Out Abandoned
-    picks b = if b then same (Abandoned.Message c.message.stream 0) s else gives_up (place t s.flight)
+    picks b = when b then same (Abandoned.Message c.message.stream 0) s else gives_up (place t s.flight)
 
     pub abandon_again : c.abandoned ≡ true → same (Abandoned.Message c.message.stream 0) s ≡ lean_abandon room t s
     abandon_again q = at_entry (some c) (found_some (in_flight t s.flight) c e) (sym (ap picks q))

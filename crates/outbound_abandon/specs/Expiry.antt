@@ -11,7 +11,7 @@ use Rattle.model.specs.declared.Expired.{Expired}
 use Rattle.model.specs.declared.Found.{Found}
 use Rattle.model.specs.declared.Lane.TheVariants.{Ordered}
 use Rattle.model.specs.declared.Stream.{Stream}
-use Rattle.model.specs.Lists.{if◌then◌else◌}
+use Rattle.model.specs.Lists.{when◌then◌else◌}
 use Rattle.model.specs.State.{Sender, Pending, Out, same, with_streams, with_pending, with_ring}
 use Rattle.model.specs.Streams.{find}
 use Rattle.model.specs.Messages.{is_dcep}
@@ -37,14 +37,14 @@ tail_expires_is now x e = ap (λ (y : Bool). not y && overdue now x) (sym e)
 
 pub lean_expire_lem : (now : ℕ) {room : Room} {s : Sender} → Good room s → lean_expire now s ≡ expire_pending now s
 unfolding lean_expire expire_pending
-lean_expire_lem now {room} {s} g = ap (λ (r : Out Expired). if ltb clock_max now then same (Expired.Refused beyond_limit) s else r) (by (head s.pending) refl)
+lean_expire_lem now {room} {s} g = ap (λ (r : Out Expired). when ltb clock_max now then same (Expired.Refused beyond_limit) s else r) (by (head s.pending) refl)
   where
     by : (o : Option Chunk) → head s.pending ≡ o → leanly_expiring o now s ≡ expiring o now s
     by none e = refl
     by (some c) e =
         let x = c.message in
         let k = g.head_run c e in
-        ap₂ (λ (p : Pending) (l : List Chunk). if expires now c then record { after = compacted x.unordered x.stream (with_pending p s); says = Expired.Message x.stream x.unordered (bytes l) } else same Expired.Nothing s)
+        ap₂ (λ (p : Pending) (l : List Chunk). when expires now c then record { after = compacted x.unordered x.stream (with_pending p s); says = Expired.Message x.stream x.unordered (bytes l) } else same Expired.Nothing s)
         (runs_without x.number s.pending k) (runs_pending x.number s.pending k)
 
 -- ---- the ways out
@@ -52,7 +52,7 @@ lean_expire_lem now {room} {s} g = ap (λ (r : Out Expired). if ltb clock_max no
 module _ (now : ℕ) (s : Sender) where
   pub expire_late : clock_max < now → same (Expired.Refused beyond_limit) s ≡ lean_expire now s
   unfolding lean_expire
-  expire_late h = sym (ap (λ (b : Bool). if b then same (Expired.Refused beyond_limit) s else leanly_expiring (head s.pending) now s) (lt-ltb clock_max now h))
+  expire_late h = sym (ap (λ (b : Bool). when b then same (Expired.Refused beyond_limit) s else leanly_expiring (head s.pending) now s) (lt-ltb clock_max now h))
 
   module _ (h : now ≤ clock_max) where
     -- at a head that is known
@@ -60,7 +60,7 @@ module _ (now : ℕ) (s : Sender) where
     unfolding lean_expire
     at_head o e q =
         q ∙ sym (ap (λ (y : Option Chunk). leanly_expiring y now s) e)
-        ∙ sym (ap (λ (b : Bool). if b then same (Expired.Refused beyond_limit) s else leanly_expiring (head s.pending) now s) (le-ltb clock_max now h))
+        ∙ sym (ap (λ (b : Bool). when b then same (Expired.Refused beyond_limit) s else leanly_expiring (head s.pending) now s) (le-ltb clock_max now h))
 
     pub expire_none : found (head s.pending) ≡ Found.Nothing → same Expired.Nothing s ≡ lean_expire now s
     expire_none e = at_head none (found_none (head s.pending) e) refl
@@ -81,7 +81,7 @@ module _ (now : ℕ) (s : Sender) where
           }
 
       abbrev picks : Bool → Out Expired
-      picks b = if b then gone c.message.unordered else same Expired.Nothing s
+      picks b = when b then gone c.message.unordered else same Expired.Nothing s
 
       pub expire_not : expires now c ≡ false → same Expired.Nothing s ≡ lean_expire now s
       expire_not q = at_head (some c) (found_some (head s.pending) c e) (sym (ap picks q))
@@ -97,7 +97,7 @@ module _ (now : ℕ) (s : Sender) where
         pub expire_unordered : c.message.unordered ≡ true → at-streams s.streams ≡ with_pending (without_runs number s.pending) s
             → told (dropped (Expired.Message id c.message.unordered n) s.streams) ≡ lean_expire now s
         expire_unordered u v =
-            ap (λ (b : Bool). told (if b then s.streams else drop_ssn (find id s.streams) s.streams)) u
+            ap (λ (b : Bool). told (when b then s.streams else drop_ssn (find id s.streams) s.streams)) u
             ∙ ap₂ (λ (x : Sender) (k : ℕ). record { after = x; says = Expired.Message id c.message.unordered k }) v w
             ∙ sym (ap gone u) ∙ leaves
 
@@ -106,7 +106,7 @@ module _ (now : ℕ) (s : Sender) where
             → at-streams (drop_ssn (find id s.streams) s.streams) ≡ with_pending (with_ring Ordered x.pending.under_way (map (lowered id) x.pending.ordered) x.pending) x
             → told (dropped (Expired.Message id c.message.unordered n) s.streams) ≡ lean_expire now s
         expire_ordered u v k =
-            ap (λ (b : Bool). told (if b then s.streams else drop_ssn (find id s.streams) s.streams)) u
+            ap (λ (b : Bool). told (when b then s.streams else drop_ssn (find id s.streams) s.streams)) u
             ∙ ap₂ (λ (x : Sender) (i : ℕ). record { after = x; says = Expired.Message id c.message.unordered i })
             (k ∙ ap (λ (x : Sender). with_pending (with_ring Ordered x.pending.under_way (map (lowered id) x.pending.ordered) x.pending) x) v) w
             ∙ sym (ap gone u) ∙ leaves

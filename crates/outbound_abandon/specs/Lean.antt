@@ -6,7 +6,7 @@ use Rattle.limits.specs.Limits.{Room}
 use Rattle.model.specs.declared.Abandoned.{Abandoned}
 use Rattle.model.specs.declared.Chunk.{Chunk}
 use Rattle.model.specs.declared.Stream.{Stream}
-use Rattle.model.specs.Lists.{if◌then◌else◌, last}
+use Rattle.model.specs.Lists.{when◌then◌else◌, last}
 use Rattle.model.specs.State.{Sender, Flight, Out, same, place, in_flight}
 use Rattle.model.specs.Rings.{bytes, terminator}
 use Rattle.payload_queue.specs.Queue.{changed, filed}
@@ -44,7 +44,7 @@ abbrev pub leanly_abandoning : Option Chunk → Room → (near : ℕ) → Sender
 leanly_abandoning none room i s = same Abandoned.Nothing s
 leanly_abandoning (some c) room i s =
     let x = c.message in
-    if c.abandoned then same (Abandoned.Message x.stream 0) s else
+    when c.abandoned then same (Abandoned.Message x.stream 0) s else
     record { after = leanly_abandoned room x.number i s; says = Abandoned.Message x.stream (leanly_held x.number i s) }
 
 unfoldable pub lean_abandon : Room → (tsn : ℕ) → Sender → Out Abandoned

@@ -8,7 +8,7 @@ use Rattle.model.specs.declared.Chunk.{Chunk}
 use Rattle.model.specs.declared.Expired.{Expired}
 use Rattle.model.specs.declared.Stream.{Stream}
 use Rattle.model.specs.declared.TailExpired.{TailExpired}
-use Rattle.model.specs.Lists.{if◌then◌else◌}
+use Rattle.model.specs.Lists.{when◌then◌else◌}
 use Rattle.model.specs.State.{Sender, Out, same, with_pending}
 use Rattle.model.specs.Streams.{find}
 use Rattle.model.specs.Told.{told_expired}
@@ -25,7 +25,7 @@ abbrev pub leanly_expiring : Option Chunk → (now : ℕ) → Sender → Out Exp
 leanly_expiring none now s = same Expired.Nothing s
 leanly_expiring (some c) now s =
     let x = c.message in
-    if expires now c then
+    when expires now c then
     record {
       after = compacted x.unordered x.stream (with_pending (without_runs x.number s.pending) s);
       says = Expired.Message x.stream x.unordered (bytes (runs x.number s.pending));
@@ -33,11 +33,11 @@ leanly_expiring (some c) now s =
     else same Expired.Nothing s
 
 unfoldable pub lean_expire : (now : ℕ) → Sender → Out Expired
-lean_expire now s = if ltb clock_max now then same (Expired.Refused beyond_limit) s else leanly_expiring (head s.pending) now s
+lean_expire now s = when ltb clock_max now then same (Expired.Refused beyond_limit) s else leanly_expiring (head s.pending) now s
 
 -- what the answer means for the streams: behind an ordered message the next SSN of its stream drops
 abbrev pub dropped : Expired → List Stream → List Stream
-dropped (Expired.Message id u b) ts = if u then ts else drop_ssn (find id ts) ts
+dropped (Expired.Message id u b) ts = when u then ts else drop_ssn (find id ts) ts
 dropped Expired.Nothing ts = ts
 dropped (Expired.Refused n) ts = ts
 
@@ -58,10 +58,10 @@ leanly_tail_expiring none room now s = same TailExpired.Nothing s
 leanly_tail_expiring (some c) room now s =
     let x = c.message in
     let i = length s.flight.entries in
-    if tail_expires now c then
+    when tail_expires now c then
     record { after = leanly_abandoned room x.number i s; says = TailExpired.Message x.stream x.number (leanly_held x.number i s) }
     else same TailExpired.Nothing s
 
 unfoldable pub lean_expire_tail : Room → (now : ℕ) → Sender → Out TailExpired
 lean_expire_tail room now s =
-    if ltb clock_max now then same (TailExpired.Refused beyond_limit) s else leanly_tail_expiring (head s.pending) room now s
+    when ltb clock_max now then same (TailExpired.Refused beyond_limit) s else leanly_tail_expiring (head s.pending) room now s

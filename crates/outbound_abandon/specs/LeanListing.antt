@@ -6,7 +6,7 @@ use Rattle.limits.specs.Limits.{Room, clock_max}
 use Rattle.limits.specs.Refusals.{done, beyond_limit}
 use Rattle.model.specs.declared.Listed.{Listed}
 use Rattle.model.specs.declared.Stream.{Stream}
-use Rattle.model.specs.Lists.{if◌then◌else◌}
+use Rattle.model.specs.Lists.{when◌then◌else◌}
 use Rattle.model.specs.State.{Sender}
 use Rattle.model.specs.Told.{told_listed}
 use Rattle.model.specs.Rings.{Listing, tsns_are, refused, listing, expired_inflight}
@@ -24,7 +24,7 @@ named (some n) = Awaited.Message n
 
 unfoldable pub lean_list : (now due room : ℕ) → Sender → Listing
 lean_list now due n s =
-    if ltb clock_max now then refused beyond_limit else listing n (sought_tsns due now (named (number_under_way s.pending)) s.flight)
+    when ltb clock_max now then refused beyond_limit else listing n (sought_tsns due now (named (number_under_way s.pending)) s.flight)
 
 -- a listing as the call gives it: its answer, and the lent list, of which the cells behind the TSNs stay
 pub record Lent : Type 0 where

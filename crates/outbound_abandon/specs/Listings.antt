@@ -13,7 +13,7 @@ use Rattle.model.specs.declared.Lane.TheVariants.{Unordered, Ordered}
 use Rattle.model.specs.declared.Listed.{Listed}
 use Rattle.model.specs.declared.UnderWay.{UnderWay}
 use Rattle.model.specs.declared.UnderWay.TheVariants.{Idle, Sending}
-use Rattle.model.specs.Lists.{if◌then◌else◌, keep, some_of}
+use Rattle.model.specs.Lists.{when◌then◌else◌, keep, some_of}
 use Rattle.model.specs.State.{Sender, Flight, lane_of, is_of}
 use Rattle.model.specs.Rings.{Listing, tsns_are, refused, listing, expired_inflight}
 use Rattle.model.specs.Flight.{found}
@@ -54,7 +54,7 @@ some_has : (n : ℕ) (l : List Chunk) → some_of (is_of n) l ≡ true → Has n
 some_has n [] e = let z : ◌≡◌ {A = ℕ} 0 1 = cc in absurd (omega arith)
 some_has n (c ∷ l) e = by (is_of n c) e (some_has n l)
   where
-    by : (b : Bool) → (b || some_of (is_of n) l) ≡ true → (some_of (is_of n) l ≡ true → Has n l) → (if b then (c ∷ keep (is_of n) l) else keep (is_of n) l) ≢ []
+    by : (b : Bool) → (b || some_of (is_of n) l) ≡ true → (some_of (is_of n) l ≡ true → Has n l) → (when b then (c ∷ keep (is_of n) l) else keep (is_of n) l) ≢ []
     by true e h = λ q. let z : ◌≡◌ {A = ℕ} 0 1 = cc in omega arith
     by false e h = h e
 
@@ -116,7 +116,7 @@ module _ {room : Room} (s : Sender) (g : Good room s) where
 sought_is : (now due : ℕ) (w : Pending) (f : Flight) → due ≤ least_due f.entries → sought_tsns due now w f ≡ overdue_tsns now w f
 sought_is now due w f h = by (ltb now due) refl
   where
-    by : (b : Bool) → ltb now due ≡ b → (if b then [] else overdue_tsns now w f) ≡ overdue_tsns now w f
+    by : (b : Bool) → ltb now due ≡ b → (when b then [] else overdue_tsns now w f) ≡ overdue_tsns now w f
     by true e = sym (none_due now w f.oldest f.entries (omega (arith, h, ltb-true now due e)))
     by false e = refl
 
@@ -124,7 +124,7 @@ pub lean_list_lem : (now due n : ℕ) {room : Room} {s : Sender} → due ≤ lea
 unfolding lean_list expired_inflight
 lean_list_lem now due n {room} {s} h g =
     let w = named (number_under_way s.pending) in
-    ap (λ (l : List ℕ). if ltb clock_max now then refused beyond_limit else listing n l) (sought_is now due w s.flight h ∙ expired_is now w s.pending s.flight (names s g))
+    ap (λ (l : List ℕ). when ltb clock_max now then refused beyond_limit else listing n l) (sought_is now due w s.flight h ∙ expired_is now w s.pending s.flight (names s g))
 
 -- ---- the ways out
 
@@ -132,13 +132,13 @@ lean_list_lem now due n {room} {s} h g =
 listing_is : (ts out : List ℕ) → record { answer = listed ts out; list = written ts out } ≡ listed_in out (listing (length out) ts)
 listing_is ts out = by (ltb (length out) (length ts))
   where
-    by : (b : Bool) → record { answer = if b then Listed.Refused list_short else Listed.Count (length ts); list = if b then out else ts ++ drop (length ts) out } ≡ listed_in out (if b then refused list_short else tsns_are ts)
+    by : (b : Bool) → record { answer = when b then Listed.Refused list_short else Listed.Count (length ts); list = when b then out else ts ++ drop (length ts) out } ≡ listed_in out (when b then refused list_short else tsns_are ts)
     by true = refl
     by false = refl
 
 module _ (now due : ℕ) (s : Sender) (out : List ℕ) where
   abbrev lists : Bool → Listing
-  lists b = if b then refused beyond_limit else listing (length out) (sought_tsns due now (named (number_under_way s.pending)) s.flight)
+  lists b = when b then refused beyond_limit else listing (length out) (sought_tsns due now (named (number_under_way s.pending)) s.flight)
 
   pub list_late : clock_max < now → record { answer = Listed.Refused beyond_limit; list = out } ≡ listed_in out (lean_list now due (length out) s)
   unfolding lean_list

@@ -10,7 +10,7 @@ use Rattle.limits.specs.Refusals.{beyond_limit}
 use Rattle.model.specs.declared.Chunk.{Chunk}
 use Rattle.model.specs.declared.Found.{Found}
 use Rattle.model.specs.declared.TailExpired.{TailExpired}
-use Rattle.model.specs.Lists.{if◌then◌else◌, last}
+use Rattle.model.specs.Lists.{when◌then◌else◌, last}
 use Rattle.model.specs.State.{Sender, Out, same}
 use Rattle.model.specs.Rings.{head, pending_of, abandoned, held_by, tail_expires, tail_expiring, expire_pending_tail}
 use Rattle.model.specs.Flight.{found}
@@ -27,7 +27,7 @@ use Rattle.outbound_abandon.specs.Abandons.{lean_abandoned, lean_held}
 module _ {room : Room} {s : Sender} (g : Good room s) where
   pub lean_expire_tail_lem : (now : ℕ) → lean_expire_tail room now s ≡ expire_pending_tail now s
   unfolding lean_expire_tail expire_pending_tail
-  lean_expire_tail_lem now = ap (λ (r : Out TailExpired). if ltb clock_max now then same (TailExpired.Refused beyond_limit) s else r) (by (head s.pending) refl)
+  lean_expire_tail_lem now = ap (λ (r : Out TailExpired). when ltb clock_max now then same (TailExpired.Refused beyond_limit) s else r) (by (head s.pending) refl)
     where
       told : Chunk → Sender → ℕ → Out TailExpired
       told c a k = record { after = a; says = TailExpired.Message c.message.stream c.message.number k }
@@ -49,21 +49,21 @@ module _ {room : Room} {s : Sender} (g : Good room s) where
         where
           at_flag : (b : Bool) → c.beginning ≡ b → leanly_tail_expiring (some c) room now s ≡ tail_expiring (some c) now s
           at_flag true q = rw q refl
-          at_flag false q = ap (λ (r : Out TailExpired). if tail_expires now c then r else same TailExpired.Nothing s) (goes c e q)
+          at_flag false q = ap (λ (r : Out TailExpired). when tail_expires now c then r else same TailExpired.Nothing s) (goes c e q)
 
 -- ---- the ways out
 
 module _ (room : Room) (now : ℕ) (s : Sender) where
   pub tail_late : clock_max < now → same (TailExpired.Refused beyond_limit) s ≡ lean_expire_tail room now s
   unfolding lean_expire_tail
-  tail_late h = sym (ap (λ (b : Bool). if b then same (TailExpired.Refused beyond_limit) s else leanly_tail_expiring (head s.pending) room now s) (lt-ltb clock_max now h))
+  tail_late h = sym (ap (λ (b : Bool). when b then same (TailExpired.Refused beyond_limit) s else leanly_tail_expiring (head s.pending) room now s) (lt-ltb clock_max now h))
 
   module _ (h : now ≤ clock_max) where
     at_head : (o : Option Chunk) {r : Out TailExpired} → head s.pending ≡ o → r ≡ leanly_tail_expiring o room now s → r ≡ lean_expire_tail room now s
     unfolding lean_expire_tail
     at_head o e q =
         q ∙ sym (ap (λ (y : Option Chunk). leanly_tail_expiring y room now s) e)
-        ∙ sym (ap (λ (b : Bool). if b then same (TailExpired.Refused beyond_limit) s else leanly_tail_expiring (head s.pending) room now s) (le-ltb clock_max now h))
+        ∙ sym (ap (λ (b : Bool). when b then same (TailExpired.Refused beyond_limit) s else leanly_tail_expiring (head s.pending) room now s) (le-ltb clock_max now h))
 
     pub tail_none : found (head s.pending) ≡ Found.Nothing → same TailExpired.Nothing s ≡ lean_expire_tail room now s
     tail_none e = at_head none (found_none (head s.pending) e) refl
@@ -73,7 +73,7 @@ module _ (room : Room) (now : ℕ) (s : Sender) where
       gives_up i = record { after = leanly_abandoned room c.message.number i s; says = TailExpired.Message c.message.stream c.message.number (leanly_held c.message.number i s) }
 
       abbrev leaves : Bool → Out TailExpired
-      leaves b = if b then gives_up (length s.flight.entries) else same TailExpired.Nothing s
+      leaves b = when b then gives_up (length s.flight.entries) else same TailExpired.Nothing s
 
       pub tail_not : tail_expires now c ≡ false → same TailExpired.Nothing s ≡ lean_expire_tail room now s
       tail_not q = at_head (some c) (found_some (head s.pending) c e) (sym (ap leaves q))

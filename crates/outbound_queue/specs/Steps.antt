@@ -7,7 +7,7 @@ use Rattle.model.specs.declared.Lane.{Lane}
 use Rattle.model.specs.declared.Lane.TheVariants.{Unordered, Ordered}
 use Rattle.model.specs.declared.Message.{Message}
 use Rattle.model.specs.declared.Stream.{Stream}
-use Rattle.model.specs.Lists.{if◌then◌else◌}
+use Rattle.model.specs.Lists.{when◌then◌else◌}
 use Rattle.model.specs.State.{Sender, Pending, at, lane_of, in_rings, with_pending, with_numbers, with_ring}
 use Rattle.model.specs.Rings.{bytes, started}
 use Rattle.demands.specs.Words.{Each}
@@ -29,7 +29,7 @@ seen_with p s = with_numbers (record { next = s.numbers.next; unstarted = s.numb
 
 -- lifetimes are started from the back of a ring to the first message that was seen; none where every message was seen
 abbrev pub new_end : (now unstarted next : ℕ) → List Chunk → List Chunk
-new_end now k n l = if eqb k n then l else started_end now k l
+new_end now k n l = when eqb k n then l else started_end now k l
 
 -- so in both rings
 abbrev pub ends_started : (now : ℕ) → Sender → Sender
@@ -37,22 +37,22 @@ ends_started now s = seen_with (in_rings (new_end now s.numbers.unstarted s.numb
 
 module _ (now k n : ℕ) where
   none_new : k ≡ n → (l : List Chunk) → l ≡ new_end now k n l
-  none_new e l = sym (ap (λ (b : Bool). if b then l else started_end now k l) (eq-eqb k n e))
+  none_new e l = sym (ap (λ (b : Bool). when b then l else started_end now k l) (eq-eqb k n e))
 
   some_new : (k ≡ n → ⊥) → (l : List Chunk) → started_end now k l ≡ new_end now k n l
-  some_new d l = sym (ap (λ (b : Bool). if b then l else started_end now k l) (ne_eqb k n d))
+  some_new d l = sym (ap (λ (b : Bool). when b then l else started_end now k l) (ne_eqb k n d))
 
   none_unseen : (l : List Chunk) → Each (λ c. c.message.number < k) l → l ≡ started_end now k l
   none_unseen [] h = refl
   none_unseen (c ∷ l) h =
       ap (λ (x : List Chunk). c ∷ x) (none_unseen l h.1)
-      ∙ sym (ap (λ (b : Bool). if b && all (unseen k) l then map (started now k) (c ∷ l) else (c ∷ started_end now k l)) (lt-leb k c.message.number h.0))
+      ∙ sym (ap (λ (b : Bool). when b && all (unseen k) l then map (started now k) (c ∷ l) else (c ∷ started_end now k l)) (lt-leb k c.message.number h.0))
 
   -- where each message is numbered below the next, the test changes nothing
   new_end_lem : (l : List Chunk) → Each (λ c. c.message.number < n) l → new_end now k n l ≡ started_end now k l
   new_end_lem l h = by (eqb k n) refl
     where
-      by : (b : Bool) → eqb k n ≡ b → (if b then l else started_end now k l) ≡ started_end now k l
+      by : (b : Bool) → eqb k n ≡ b → (when b then l else started_end now k l) ≡ started_end now k l
       by true e = none_unseen l (subst (λ (i : ℕ). Each (λ c. c.message.number < i) l) (sym (eqb-true k n e)) h)
       by false e = refl
 
@@ -99,7 +99,7 @@ lowered_ring ts q r o e = let s = sender_in ts q r in ap (λ (x : List Chunk). w
 
 -- the rings of which that one has other words
 abbrev pub relent : (unordered : Bool) → List ℕ → Rings → Rings
-relent b w r = record { unordered = if b then w else r.unordered; ordered = if b then r.ordered else w; flight = r.flight }
+relent b w r = record { unordered = when b then w else r.unordered; ordered = when b then r.ordered else w; flight = r.flight }
 
 module _ (q : OutboundQueue) (x : Message) (m off l : ℕ) (ws vs w : List ℕ) {n : ℕ} (same : n ≡ ring_room ws) (d : Added) (lane : Bool) (back : rings_in vs ≡ relent lane w (rings_in ws)) {p : PendingQueue} (e : x.unordered ≡ lane) (f : p ≡ with_added lane d q.pending) where
   -- what was pending

@@ -4,7 +4,7 @@ use Rattle.std.proofs.Common.{sym, ap, ◌∙◌, add-one, arith, length-drop}
 use Rattle.limits.specs.Limits.{tsns}
 use Rattle.model.specs.declared.Block.{Block}
 use Rattle.model.specs.declared.Chunk.{Chunk}
-use Rattle.model.specs.Lists.{if◌then◌else◌, some_of}
+use Rattle.model.specs.Lists.{when◌then◌else◌, some_of}
 use Rattle.model.specs.State.{Flight}
 use Rattle.model.specs.Rings.{bytes}
 use Rattle.model.specs.Flight.{acknowledged}
@@ -49,7 +49,7 @@ flight_is e q = λ i. record { oldest = e i; entries = q i }
 -- ---- the blocks
 
 -- an entry keeps its deadline
-due_stays : (b : Bool) (c : Chunk) → due_of (if b then acknowledged c else c) ≡ due_of c
+due_stays : (b : Bool) (c : Chunk) → due_of (when b then acknowledged c else c) ≡ due_of c
 unfolding due_of
 due_stays true c = refl
 due_stays false c = refl

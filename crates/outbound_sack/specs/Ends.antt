@@ -5,7 +5,7 @@ use Rattle.std.proofs.Math.Decide.{dec_lt}
 use Rattle.std.proofs.lemmas.Bool.{lt-leb}
 use Rattle.model.specs.declared.Block.{Block}
 use Rattle.model.specs.declared.Chunk.{Chunk}
-use Rattle.model.specs.Lists.{if◌then◌else◌, some_of}
+use Rattle.model.specs.Lists.{when◌then◌else◌, some_of}
 use Rattle.model.specs.Flight.{acknowledged}
 use Rattle.demands.specs.Sacks.{inside}
 
@@ -13,7 +13,7 @@ use Rattle.demands.specs.Sacks.{inside}
 
 abbrev pub noted : (k : ℕ) → Block → List ℕ → List ℕ
 noted k b [] = []
-noted k b (e ∷ l) = max e (if nat_eq b.start k then b.end else 0) ∷ noted (suc k) b l
+noted k b (e ∷ l) = max e (when nat_eq b.start k then b.end else 0) ∷ noted (suc k) b l
 
 abbrev pub noted_all : (k : ℕ) → List Block → List ℕ → List ℕ
 noted_all k [] l = l
@@ -23,18 +23,18 @@ noted_all k (b ∷ bs) l = noted_all k bs (noted k b l)
 abbrev pub reached : (ends : List ℕ) → (top k : ℕ) → List Chunk → List Chunk
 reached [] top k l = l
 reached (e ∷ es) top k [] = []
-reached (e ∷ es) top k (c ∷ l) = (if leb k (max top e) then acknowledged c else c) ∷ reached es (max top e) (suc k) l
+reached (e ∷ es) top k (c ∷ l) = (when leb k (max top e) then acknowledged c else c) ∷ reached es (max top e) (suc k) l
 
 -- ---- what the ends mean
 
 -- the furthest end of the blocks that start at k, and of those that start at k or before
 abbrev pub end_at : (k : ℕ) → List Block → ℕ
 end_at k [] = 0
-end_at k (b ∷ bs) = max (if nat_eq b.start k then b.end else 0) (end_at k bs)
+end_at k (b ∷ bs) = max (when nat_eq b.start k then b.end else 0) (end_at k bs)
 
 abbrev pub end_up_to : (k : ℕ) → List Block → ℕ
 end_up_to k [] = 0
-end_up_to k (b ∷ bs) = max (if leb b.start k then b.end else 0) (end_up_to k bs)
+end_up_to k (b ∷ bs) = max (when leb b.start k then b.end else 0) (end_up_to k bs)
 
 -- cell by cell
 abbrev pub ends_from : (k : ℕ) → List Block → List ℕ → List ℕ
@@ -47,7 +47,7 @@ ends_none k (e ∷ l) = let m : e ≡ max e 0 = omega arith in λ i. m i ∷ end
 
 ends_more : (k : ℕ) (b : Block) (bs : List Block) (l : List ℕ) → ends_from k bs (noted k b l) ≡ ends_from k (b ∷ bs) l
 ends_more k b bs [] = refl
-ends_more k b bs (e ∷ l) = let m = max3 e (if nat_eq b.start k then b.end else 0) (end_at k bs) in λ i. m i ∷ ends_more (suc k) b bs l i
+ends_more k b bs (e ∷ l) = let m = max3 e (when nat_eq b.start k then b.end else 0) (end_at k bs) in λ i. m i ∷ ends_more (suc k) b bs l i
   where
     max3 : (x y z : ℕ) → max (max x y) z ≡ max x (max y z)
     max3 x y z = omega arith
@@ -84,9 +84,9 @@ leb_max k x y = go (dec_lt x k) (dec_lt y k)
 covered_is : (k : ℕ) (bs : List Block) → nat_le (suc k) (end_up_to (suc k) bs) ≡ some_of (inside (suc k)) bs
 covered_is k [] = lt-leb (suc k) 0 (omega arith)
 covered_is k (b ∷ bs) =
-    leb_max (suc k) (if leb b.start (suc k) then b.end else 0) (end_up_to (suc k) bs) ∙ (λ i. one (nat_le b.start (suc k)) i || covered_is k bs i)
+    leb_max (suc k) (when leb b.start (suc k) then b.end else 0) (end_up_to (suc k) bs) ∙ (λ i. one (nat_le b.start (suc k)) i || covered_is k bs i)
   where
-    one : (t : Bool) → nat_le (suc k) (if t then b.end else 0) ≡ (t && nat_le (suc k) b.end)
+    one : (t : Bool) → nat_le (suc k) (when t then b.end else 0) ≡ (t && nat_le (suc k) b.end)
     one true = refl
     one false = lt-leb (suc k) 0 (omega arith)
 
@@ -96,7 +96,7 @@ covered_is k (b ∷ bs) =
 abbrev pub gapped_in : (w : ℕ) → List Block → (i : ℕ) → List Chunk → List Chunk
 gapped_in zero bs i l = l
 gapped_in (suc w) bs i [] = []
-gapped_in (suc w) bs i (c ∷ l) = (if some_of (inside i) bs then acknowledged c else c) ∷ gapped_in w bs (suc i) l
+gapped_in (suc w) bs i (c ∷ l) = (when some_of (inside i) bs then acknowledged c else c) ∷ gapped_in w bs (suc i) l
 
 pub walk_is : (w k : ℕ) (bs : List Block) (l : List Chunk) → reached (ends_from (suc k) bs (replicate w 0)) (end_up_to k bs) (suc k) l ≡ gapped_in w bs (suc k) l
 walk_is zero k bs l = refl
@@ -104,5 +104,5 @@ walk_is (suc w) k bs [] = refl
 walk_is (suc w) k bs (c ∷ l) =
     let m : max (end_up_to k bs) (max 0 (end_at (suc k) bs)) ≡ end_up_to (suc k) bs = omega (arith, up_to_suc k bs) in
     let b = ap (leb (suc k)) m ∙ covered_is k bs in
-    (λ i. (if b i then acknowledged c else c) ∷ reached (ends_from (suc (suc k)) bs (replicate w 0)) (m i) (suc (suc k)) l)
-    ∙ ap (λ (r : List Chunk). (if some_of (inside (suc k)) bs then acknowledged c else c) ∷ r) (walk_is w (suc k) bs l)
+    (λ i. (when b i then acknowledged c else c) ∷ reached (ends_from (suc (suc k)) bs (replicate w 0)) (m i) (suc (suc k)) l)
+    ∙ ap (λ (r : List Chunk). (when some_of (inside (suc k)) bs then acknowledged c else c) ∷ r) (walk_is w (suc k) bs l)

@@ -3,11 +3,11 @@ use Rattle.std.specs.Prelude.{◌≡◌, ℕ, zero, suc, ◌+◌, ◌<◌, ◌�
 use Rattle.std.proofs.Common.{sym, ap, ◌∙◌, arith, eq-eqb, ne_eqb}
 use Rattle.std.proofs.lemmas.List.{set-get_or}
 use Rattle.model.specs.declared.Block.{Block}
-use Rattle.model.specs.Lists.{if◌then◌else◌}
+use Rattle.model.specs.Lists.{when◌then◌else◌}
 use Rattle.outbound_sack.specs.Ends.{noted, noted_all}
 
 -- a cell that is not the start's
-other : (k : ℕ) (b : Block) (e : ℕ) → (b.start ≢ k) → e ≡ max e (if nat_eq b.start k then b.end else 0)
+other : (k : ℕ) (b : Block) (e : ℕ) → (b.start ≢ k) → e ≡ max e (when nat_eq b.start k then b.end else 0)
 other k b e h = rw (ne_eqb b.start k h) (omega arith)
 
 -- the start is before the window, or behind it
@@ -20,7 +20,7 @@ past k b [] h = refl
 past k b (e ∷ l) h = let o = other k b e (λ q. omega arith) in λ i. o i ∷ past (suc k) b l (omega arith) i
 
 -- it is in the window
-own : (k : ℕ) (b : Block) (e : ℕ) → b.start ≡ k → max e b.end ≡ max e (if nat_eq b.start k then b.end else 0)
+own : (k : ℕ) (b : Block) (e : ℕ) → b.start ≡ k → max e b.end ≡ max e (when nat_eq b.start k then b.end else 0)
 own k b e h = rw (eq-eqb b.start k h)
 
 in_window : (i k : ℕ) (b : Block) (l : List ℕ) → b.start ≡ k + i → i < length l → slice_set l i (max (slice_index l i) b.end) ≡ noted k b l

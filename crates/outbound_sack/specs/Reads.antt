@@ -7,7 +7,7 @@ use Rattle.limits.specs.Limits.{Room}
 use Rattle.limits.specs.Refusals.{bad_sack, bad_block}
 use Rattle.model.specs.declared.Block.{Block}
 use Rattle.model.specs.declared.Sacked.{Sacked}
-use Rattle.model.specs.Lists.{if◌then◌else◌, total}
+use Rattle.model.specs.Lists.{when◌then◌else◌, total}
 use Rattle.model.specs.State.{Sender, Flight, Out, same}
 use Rattle.model.specs.Told.{told_sacked}
 use Rattle.model.specs.Rings.{bytes}
@@ -49,14 +49,14 @@ record IsSack (p : List ℕ) (t n : ℕ) : Type 0 where
 no_sack : (p : List ℕ) → layout_of p ≡ Layout.Other → is_sack p ≡ false
 no_sack p e = go (is_sack p) e
   where
-    go : (b : Bool) → (if b then Layout.Sack (cumulative_of p) (block_count p) else Layout.Other) ≡ Layout.Other → b ≡ false
+    go : (b : Bool) → (when b then Layout.Sack (cumulative_of p) (block_count p) else Layout.Other) ≡ Layout.Other → b ≡ false
     go true q = let z : ◌≡◌ {A = ℕ} 0 1 = cc in absurd (omega arith)
     go false q = refl
 
 is_sack_lem : (p : List ℕ) (t n : ℕ) → layout_of p ≡ Layout.Sack t n → IsSack p t n
 is_sack_lem p t n e = go (is_sack p) refl e
   where
-    go : (b : Bool) → is_sack p ≡ b → (if b then Layout.Sack (cumulative_of p) (block_count p) else Layout.Other) ≡ Layout.Sack t n → IsSack p t n
+    go : (b : Bool) → is_sack p ≡ b → (when b then Layout.Sack (cumulative_of p) (block_count p) else Layout.Other) ≡ Layout.Sack t n → IsSack p t n
     go true y q = record { is = y; cumulative = cc; blocks = cc }
     go false y q = let z : ◌≡◌ {A = ℕ} 0 1 = cc in absurd (omega arith)
 
@@ -92,14 +92,14 @@ module _ (p : List ℕ) (t m : ℕ) (f : Flight) {n k : ℕ} {b : Bool} (e : n �
 module _ (room : Room) (p : List ℕ) (s : Sender) where
   pub refused : layout_of p ≡ Layout.Other → same (Sacked.Refused bad_sack) s ≡ sack room p s
   unfolding sack
-  refused e = sym (ap (λ (b : Bool). if b then sacking room (cumulative_of p) (blocks_in p) s else same (Sacked.Refused bad_sack) s) (no_sack p e))
+  refused e = sym (ap (λ (b : Bool). when b then sacking room (cumulative_of p) (blocks_in p) s else same (Sacked.Refused bad_sack) s) (no_sack p e))
 
   module _ (t n : ℕ) (e : layout_of p ≡ Layout.Sack t n) where
     here : sacking room t (blocks_from n 0 (drop 16 p)) s ≡ sack room p s
     unfolding sack
     here =
         let i = is_sack_lem p t n e in
-        (λ j. sacking room (i.cumulative j) (blocks_from (i.blocks j) 0 (drop 16 p)) s) ∙ sym (ap (λ (b : Bool). if b then sacking room (cumulative_of p) (blocks_in p) s else same (Sacked.Refused bad_sack) s) i.is)
+        (λ j. sacking room (i.cumulative j) (blocks_from (i.blocks j) 0 (drop 16 p)) s) ∙ sym (ap (λ (b : Bool). when b then sacking room (cumulative_of p) (blocks_in p) s else same (Sacked.Refused bad_sack) s) i.is)
 
     -- the blocks
     abbrev bs : List Block
@@ -113,7 +113,7 @@ module _ (room : Room) (p : List ℕ) (s : Sender) where
     done = record { after = run room (sack_calls t bs s.flight) s; says = Sacked.Released (total bytes_in (answers room (sack_calls t bs s.flight) s)) }
 
     abbrev by : (stale good : Bool) → Out Sacked
-    by stale good = if stale then same Sacked.Stale s else if good then done else same (Sacked.Refused bad_block) s
+    by stale good = when stale then same Sacked.Stale s else when good then done else same (Sacked.Refused bad_block) s
 
     stale : is_stale t s.flight ≡ true → same Sacked.Stale s ≡ sack room p s
     stale h = sym (ap (λ (b : Bool). by b (all_within left bs)) h) ∙ here

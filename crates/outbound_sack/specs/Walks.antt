@@ -3,7 +3,7 @@ use Rattle.std.specs.Prelude.{◌≡◌, ℕ, zero, suc, ◌+◌, ◌-◌, ◌/�
 use Rattle.std.proofs.Common.{sym, ap, ◌∙◌, add-zero, add-one, arith, take-append-drop, drop_of_length-le, drop-cons}
 use Rattle.std.proofs.Math.Decide.{dec_lt}
 use Rattle.model.specs.declared.Chunk.{Chunk}
-use Rattle.model.specs.Lists.{if◌then◌else◌, adjust}
+use Rattle.model.specs.Lists.{when◌then◌else◌, adjust}
 use Rattle.model.specs.Rings.{bytes}
 use Rattle.model.specs.Flight.{acknowledged}
 use Rattle.cells.specs.Slots.{limit}
@@ -16,7 +16,7 @@ use Rattle.outbound_sack.specs.Ends.{reached}
 -- ---- one entry
 
 abbrev pub adjust_if : Bool → ℕ → List Chunk → List Chunk
-adjust_if b i l = if b then adjust acknowledged i l else l
+adjust_if b i l = when b then adjust acknowledged i l else l
 
 -- the i-th of the entries `l` is acknowledged if it is covered, `m` are the entries then, and n bytes are released
 abbrev pub AcknowledgesIf : (covered : Bool) → (i : ℕ) → (l m : List Chunk) → (n : ℕ) → Type 0
@@ -50,7 +50,7 @@ walk_turn : (j k e : ℕ) (es : List ℕ) (top : ℕ) (l : List Chunk) → j < l
 walk_turn j k e es top [] h = absurd (omega arith)
 walk_turn zero k e es top (c ∷ l) h = by (nat_le k (max top e))
   where
-    by : (b : Bool) → walked 1 (suc k) es (max top e) (adjust_if b 0 (c ∷ l)) ≡ (if b then acknowledged c else c) ∷ reached es (max top e) (suc k) l
+    by : (b : Bool) → walked 1 (suc k) es (max top e) (adjust_if b 0 (c ∷ l)) ≡ (when b then acknowledged c else c) ∷ reached es (max top e) (suc k) l
     by true = refl
     by false = refl
 walk_turn (suc j) k e es top (c ∷ l) h = by (nat_le k (max top e)) (walk_turn j k e es top l (omega arith))

@@ -4,7 +4,7 @@ use Rattle.std.proofs.Common.{sym, ap, subst, ◌∙◌, add-zero, add-one, arit
 use Rattle.std.proofs.lemmas.Bool.{lt-leb}
 use Rattle.model.specs.declared.Block.{Block}
 use Rattle.model.specs.declared.Chunk.{Chunk}
-use Rattle.model.specs.Lists.{if◌then◌else◌, some_of}
+use Rattle.model.specs.Lists.{when◌then◌else◌, some_of}
 use Rattle.model.specs.Rings.{bytes}
 use Rattle.model.specs.Flight.{acknowledged}
 use Rattle.model.specs.Sack.{within, all_within}
@@ -35,7 +35,7 @@ none_before left (b ∷ bs) w =
     let q = both (nat_le 1 b.start) (nat_le b.start b.end && nat_le b.end left) p.0 in
     let e : leb b.start 0 ≡ false = lt-leb b.start 0 (leb-true 1 b.start q.0) in
     let m : 0 ≡ max 0 (end_up_to 0 bs) = omega (arith, none_before left bs p.1) in
-    m ∙ ap (λ (t : Bool). max (if t then b.end else 0) (end_up_to 0 bs)) (sym e)
+    m ∙ ap (λ (t : Bool). max (when t then b.end else 0) (end_up_to 0 bs)) (sym e)
   where
     both : (x y : Bool) → (x && y) ≡ true → (x ≡ true) × (y ≡ true)
     both true true e = (refl, refl)
@@ -64,7 +64,7 @@ gapped_all : (j : ℕ) (bs : List Block) (i : ℕ) (l : List Chunk) → length l
 gapped_all zero bs i [] h = refl
 gapped_all (suc j) bs i [] h = refl
 gapped_all zero bs i (c ∷ l) h = absurd (omega arith)
-gapped_all (suc j) bs i (c ∷ l) h = ap (λ (r : List Chunk). (if some_of (inside i) bs then acknowledged c else c) ∷ r) (gapped_all j bs (suc i) l (omega arith))
+gapped_all (suc j) bs i (c ∷ l) h = ap (λ (r : List Chunk). (when some_of (inside i) bs then acknowledged c else c) ∷ r) (gapped_all j bs (suc i) l (omega arith))
 
 -- a window of w behind j that are done, the first of them at offset i + 1
 one_window : (w j i k : ℕ) (bs : List Block) (l : List Chunk) → k ≡ i + j
@@ -78,7 +78,7 @@ one_window w (suc j) i k bs [] e =
     nothing_reached (ends_from (suc k) bs (replicate w 0)) (end_up_to k bs) (suc k) ∙ sym (ap (λ (n : ℕ). gapped_in n bs (suc i) []) z)
 one_window w (suc j) i k bs (c ∷ l) e =
     let z : suc j + w ≡ suc (j + w) = omega arith in
-    ap (λ (r : List Chunk). (if some_of (inside (suc i)) bs then acknowledged c else c) ∷ r) (one_window w j (suc i) k bs l (omega arith))
+    ap (λ (r : List Chunk). (when some_of (inside (suc i)) bs then acknowledged c else c) ∷ r) (one_window w j (suc i) k bs l (omega arith))
     ∙ sym (ap (λ (n : ℕ). gapped_in n bs (suc i) (c ∷ l)) z)
 
 -- ---- between two windows: `l` are the entries now, and `l₀` those before

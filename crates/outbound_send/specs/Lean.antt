@@ -5,17 +5,17 @@ use Rattle.limits.specs.Limits.{Room, clock_max}
 use Rattle.limits.specs.Refusals.{beyond_limit}
 use Rattle.model.specs.declared.Done.{Done}
 use Rattle.model.specs.declared.Sent.{Sent}
-use Rattle.model.specs.Lists.{if◌then◌else◌}
+use Rattle.model.specs.Lists.{when◌then◌else◌}
 use Rattle.model.specs.State.{Sender, Out, same, at}
 use Rattle.model.specs.Rings.{head_lane, sending}
 use Rattle.outbound_queue.specs.Steps.{ends_started}
 
 unfoldable pub lean_start : (now : ℕ) → Sender → Out Done
 lean_start now s =
-    if ltb clock_max now then same (Done.Refused beyond_limit) s else
+    when ltb clock_max now then same (Done.Refused beyond_limit) s else
     record { after = ends_started now s; says = Done.Done }
 
 unfoldable pub lean_send : Room → (now : ℕ) → Sender → Out Sent
 lean_send room now s =
-    if ltb clock_max now then same (Sent.Refused beyond_limit) s else
+    when ltb clock_max now then same (Sent.Refused beyond_limit) s else
     let p = (ends_started now s).pending in sending (head_lane p) (at (head_lane p) p) room now s (ends_started now s)

@@ -10,7 +10,7 @@ use Rattle.limits.specs.Refusals.{beyond_limit, ring_full, numbers_spent}
 use Rattle.model.specs.declared.Chunk.{Chunk}
 use Rattle.model.specs.declared.Done.{Done}
 use Rattle.model.specs.declared.Message.{Message}
-use Rattle.model.specs.Lists.{if◌then◌else◌}
+use Rattle.model.specs.Lists.{when◌then◌else◌}
 pub use Rattle.model.specs.Records.{numbered_as}
 use Rattle.model.specs.State.{Sender, Numbers, Out, same, at, lane_of, with_pending, with_numbers, with_ring}
 use Rattle.model.specs.Messages.{pieces, cut, number_after, pushed}
@@ -25,9 +25,9 @@ queued x m off n s =
 -- 1, 8, 9 of a write, and then that
 unfoldable pub pushing : (room : ℕ) → Message → (maximum offset length : ℕ) → Sender → Out Done
 pushing room x m off n s =
-    if ltb offset_max off then same (Done.Refused beyond_limit) s else
-    if ltb room (length (at (lane_of x.unordered) s.pending) + pieces n m) then same (Done.Refused ring_full) s else
-    if leb 1 (pieces n m) && eqb s.numbers.next number_max then same (Done.Refused numbers_spent) s else
+    when ltb offset_max off then same (Done.Refused beyond_limit) s else
+    when ltb room (length (at (lane_of x.unordered) s.pending) + pieces n m) then same (Done.Refused ring_full) s else
+    when leb 1 (pieces n m) && eqb s.numbers.next number_max then same (Done.Refused numbers_spent) s else
     record { after = queued x m off n s; says = Done.Done }
 
 module _ (room : ℕ) (x : Message) (m off n : ℕ) (s : Sender) where
@@ -37,7 +37,7 @@ module _ (room : ℕ) (x : Message) (m off n : ℕ) (s : Sender) where
   -- by what code finds of the three tests
   abbrev picks : (far full spent : Bool) → Out Done
   picks a b d =
-      if a then same (Done.Refused beyond_limit) s else if b then same (Done.Refused ring_full) s else if d then same (Done.Refused numbers_spent) s else
+      when a then same (Done.Refused beyond_limit) s else when b then same (Done.Refused ring_full) s else when d then same (Done.Refused numbers_spent) s else
       record { after = queued x m off n s; says = Done.Done }
 
   pub push_far : offset_max < off → same (Done.Refused beyond_limit) s ≡ pushing room x m off n s

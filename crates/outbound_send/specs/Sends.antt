@@ -14,7 +14,7 @@ use Rattle.model.specs.declared.Lane.TheVariants.{Unordered, Ordered}
 use Rattle.model.specs.declared.Sent.{Sent}
 use Rattle.model.specs.declared.UnderWay.{UnderWay}
 use Rattle.model.specs.declared.UnderWay.TheVariants.{Idle, Sending}
-use Rattle.model.specs.Lists.{if◌then◌else◌, first}
+use Rattle.model.specs.Lists.{when◌then◌else◌, first}
 use Rattle.model.specs.State.{Sender, Pending, Out, at, in_rings, same, next_tsn, with_pending}
 use Rattle.model.specs.Rings.{head_lane, head, started, start_lifetimes, with_lifetimes, send, sending, sent_at, taken}
 use Rattle.model.specs.Flight.{found}
@@ -38,18 +38,18 @@ module _ (now : ℕ) {room : Room} {s : Sender} (g : Good room s) where
 
   pub lean_start_lem : lean_start now s ≡ start_lifetimes now s
   unfolding lean_start start_lifetimes
-  lean_start_lem = ap (λ (b : Sender). if ltb clock_max now then same (Done.Refused beyond_limit) s else record { after = b; says = Done.Done }) ends_are
+  lean_start_lem = ap (λ (b : Sender). when ltb clock_max now then same (Done.Refused beyond_limit) s else record { after = b; says = Done.Done }) ends_are
 
   pub lean_send_lem : (r : Room) → lean_send r now s ≡ send r now s
   unfolding lean_send send
-  lean_send_lem r = ap (λ (b : Sender). if ltb clock_max now then same (Sent.Refused beyond_limit) s else sending (head_lane b.pending) (at (head_lane b.pending) b.pending) r now s b) ends_are
+  lean_send_lem r = ap (λ (b : Sender). when ltb clock_max now then same (Sent.Refused beyond_limit) s else sending (head_lane b.pending) (at (head_lane b.pending) b.pending) r now s b) ends_are
 
 -- ---- lifetimes
 
 module _ (now : ℕ) (s : Sender) where
   pub start_late : clock_max < now → same (Done.Refused beyond_limit) s ≡ lean_start now s
   unfolding lean_start
-  start_late h = sym (ap (λ (b : Bool). if b then same (Done.Refused beyond_limit) s else record { after = ends_started now s; says = Done.Done }) (lt-ltb clock_max now h))
+  start_late h = sym (ap (λ (b : Bool). when b then same (Done.Refused beyond_limit) s else record { after = ends_started now s; says = Done.Done }) (lt-ltb clock_max now h))
 
   -- the clock is in range
   pub in_range : now ≤ clock_max → {x : Sender} → x ≡ ends_started (min now clock_max) s → x ≡ ends_started now s
@@ -59,7 +59,7 @@ module _ (now : ℕ) (s : Sender) where
   unfolding lean_start
   start_all h e =
       ap (λ (y : Sender). record { after = y; says = Done.Done }) e
-      ∙ sym (ap (λ (b : Bool). if b then same (Done.Refused beyond_limit) s else record { after = ends_started now s; says = Done.Done }) (le-ltb clock_max now h))
+      ∙ sym (ap (λ (b : Bool). when b then same (Done.Refused beyond_limit) s else record { after = ends_started now s; says = Done.Done }) (le-ltb clock_max now h))
 
 -- ---- whether there is a head and no room for it, which is asked before lifetimes start
 
@@ -86,7 +86,7 @@ module _ (now k : ℕ) where
   ahead_started Idle [] o = refl
   ahead_started Idle (c ∷ u) o = by (all (unseen k) (c ∷ u))
     where
-      by : (b : Bool) → let x : List Chunk = if b then map (started now k) (c ∷ u) else (c ∷ started_end now k u) in
+      by : (b : Bool) → let x : List Chunk = when b then map (started now k) (c ∷ u) else (c ∷ started_end now k u) in
           let p : Pending = record { under_way = Idle; unordered = x; ordered = started_end now k o } in at (head_lane p) p ≡ x
       by true = refl
       by false = refl
@@ -97,12 +97,12 @@ module _ (now k : ℕ) where
   blocked_by room f [] = refl
   blocked_by room f (c ∷ x) = by (all (unseen k) (c ∷ x))
     where
-      by : (b : Bool) → blocked (first (if b then map (started now k) (c ∷ x) else (c ∷ started_end now k x))) room f ≡ leb room (suc (length f))
+      by : (b : Bool) → blocked (first (when b then map (started now k) (c ∷ x) else (c ∷ started_end now k x))) room f ≡ leb room (suc (length f))
       by true = refl
       by false = refl
 
   -- so too where none is started, since every message was seen: `b`
-  blocked_new : (b : Bool) (p : Pending) (room : ℕ) (f : List Chunk) → blocked (head (in_rings (λ (l : List Chunk). if b then l else started_end now k l) p)) room f ≡ blocked (head p) room f
+  blocked_new : (b : Bool) (p : Pending) (room : ℕ) (f : List Chunk) → blocked (head (in_rings (λ (l : List Chunk). when b then l else started_end now k l) p)) room f ≡ blocked (head p) room f
   blocked_new true p room f = refl
   blocked_new false p room f =
       ap (λ (x : List Chunk). blocked (first x) room f) (ahead_started p.under_way p.unordered p.ordered) ∙ blocked_by room f (at (head_lane p) p)
@@ -118,7 +118,7 @@ module _ (room : Room) (now : ℕ) (s : Sender) where
   ahead p = at (head_lane p) p
 
   abbrev sends : Bool → Out Sent
-  sends b = if b then same (Sent.Refused beyond_limit) s else sending (head_lane begun.pending) (ahead begun.pending) room now s begun
+  sends b = when b then same (Sent.Refused beyond_limit) s else sending (head_lane begun.pending) (ahead begun.pending) room now s begun
 
   pub send_late : clock_max < now → same (Sent.Refused beyond_limit) s ≡ lean_send room now s
   unfolding lean_send
@@ -138,7 +138,7 @@ module _ (room : Room) (now : ℕ) (s : Sender) where
 
       full_by : (l : Lane) (x : List Chunk) → blocked (first x) room.flight s.flight.entries ≡ true → same (Sent.Refused flight_full) s ≡ sending l x room now s begun
       full_by l [] e = let z : ◌≡◌ {A = ℕ} 0 1 = cc in absurd (omega arith)
-      full_by l (c ∷ x) e = sym (ap (λ (b : Bool). if b then same (Sent.Refused flight_full) s else record { after = taken l now c x begun; says = Sent.Yielded (next_tsn s) (sent_at now c) }) e)
+      full_by l (c ∷ x) e = sym (ap (λ (b : Bool). when b then same (Sent.Refused flight_full) s else record { after = taken l now c x begun; says = Sent.Yielded (next_tsn s) (sent_at now c) }) e)
 
       pub send_full : blocked (head s.pending) n s.flight.entries ≡ true → same (Sent.Refused flight_full) s ≡ lean_send room now s
       send_full e = opened (full_by (head_lane begun.pending) (ahead begun.pending) (still_blocked ∙ e))
@@ -166,10 +166,10 @@ module _ (room : Room) (now : ℕ) (s : Sender) where
             let f = leb-false room.flight (suc (length s.flight.entries)) n in
             ap (sent_with (popped_from l (d ∷ k) begun.pending)) it
             ∙ ap (λ (b : Bool). record {
-              after = with_flight (record { oldest = s.flight.oldest; entries = if b then s.flight.entries ++ (sent_at now d ∷ []) else s.flight.entries }) (with_pending (popped_from l (d ∷ k) begun.pending) begun);
+              after = with_flight (record { oldest = s.flight.oldest; entries = when b then s.flight.entries ++ (sent_at now d ∷ []) else s.flight.entries }) (with_pending (popped_from l (d ∷ k) begun.pending) begun);
               says = Sent.Yielded (next_tsn s) (sent_at now d);
             }) (lt-ltb (length s.flight.entries) room.flight (omega arith))
-            ∙ sym (ap (λ (b : Bool). if b then same (Sent.Refused flight_full) s else record { after = taken l now d k begun; says = Sent.Yielded (next_tsn s) (sent_at now d) }) n)
+            ∙ sym (ap (λ (b : Bool). when b then same (Sent.Refused flight_full) s else record { after = taken l now d k begun; says = Sent.Yielded (next_tsn s) (sent_at now d) }) n)
 
         -- `z` has the chunk filed, and `told` is that chunk
         pub send_one : (c : Chunk) → found (head x.pending) ≡ Found.One c → blocked (head s.pending) n s.flight.entries ≡ false

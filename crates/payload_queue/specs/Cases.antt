@@ -6,7 +6,7 @@ use Rattle.limits.specs.Limits.{tsns}
 use Rattle.limits.specs.Moments.{passed}
 use Rattle.model.specs.declared.Chunk.{Chunk}
 use Rattle.model.specs.declared.Found.{Found}
-use Rattle.model.specs.Lists.{if◌then◌else◌, first}
+use Rattle.model.specs.Lists.{when◌then◌else◌, first}
 use Rattle.model.specs.State.{Flight}
 use Rattle.model.specs.Rings.{bytes}
 use Rattle.model.specs.Flight.{found}
@@ -41,7 +41,7 @@ module _ (t : ℕ) (f : Flight) where
   pub pop_other : (l : List Chunk) → (t ≢ f.oldest) → stays ≡ popped_of l t f
   pop_other [] n = refl
   pop_other (c ∷ l) n =
-      sym (ap (λ (b : Bool). if b then record { flight = record { oldest = (f.oldest + 1) % tsns; entries = l }; front = Found.One c } else stays) (ne_eqb t f.oldest n))
+      sym (ap (λ (b : Bool). when b then record { flight = record { oldest = (f.oldest + 1) % tsns; entries = l }; front = Found.One c } else stays) (ne_eqb t f.oldest n))
 
   pub pop_none : (l : List Chunk) → found (first l) ≡ Found.Nothing → stays ≡ popped_of l t f
   pop_none l e = sym (ap (λ (m : List Chunk). popped_of m t f) (first_none l e))
@@ -50,7 +50,7 @@ module _ (t : ℕ) (f : Flight) where
       → record { flight = record { oldest = n; entries = m }; front = Found.One c } ≡ popped_of l t f
   pop_one l {c} y e r w =
       (λ i. record { flight = record { oldest = w i; entries = r i }; front = Found.One c })
-      ∙ sym (ap (λ (k : List Chunk). popped_of k t f) e ∙ ap (λ (b : Bool). if b then record { flight = record { oldest = (f.oldest + 1) % tsns; entries = drop 1 l }; front = Found.One c } else stays) (eq-eqb t f.oldest y))
+      ∙ sym (ap (λ (k : List Chunk). popped_of k t f) e ∙ ap (λ (b : Bool). when b then record { flight = record { oldest = (f.oldest + 1) % tsns; entries = drop 1 l }; front = Found.One c } else stays) (eq-eqb t f.oldest y))
 
 -- ---- expired: abandoned, alive, unacknowledged, acknowledged
 

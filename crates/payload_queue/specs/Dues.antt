@@ -6,7 +6,7 @@ use Rattle.limits.specs.Limits.{tsns}
 use Rattle.limits.specs.declared.Moment.{Moment}
 use Rattle.limits.specs.Moments.{passed}
 use Rattle.model.specs.declared.Chunk.{Chunk}
-use Rattle.model.specs.Lists.{if◌then◌else◌, adjust}
+use Rattle.model.specs.Lists.{when◌then◌else◌, adjust}
 use Rattle.model.specs.State.{is_of}
 use Rattle.model.specs.Rings.{tsns_of, marked, given_up}
 use Rattle.model.specs.Flight.{acknowledged, to_retransmit}
@@ -39,10 +39,10 @@ least_append [] c = omega arith
 least_append (d ∷ l) c = omega (arith, least_append l c)
 
 pub least_pushed : (room : ℕ) (l : List Chunk) (c : Chunk) → nat_lt (length l) room ≡ true → least_due (pushed room l c) ≡ min (least_due l) (due_of c)
-least_pushed room l c e = ap (λ (b : Bool). least_due (if b then l ++ (c ∷ []) else l)) e ∙ least_append l c
+least_pushed room l c e = ap (λ (b : Bool). least_due (when b then l ++ (c ∷ []) else l)) e ∙ least_append l c
 
 pub least_stay : (room : ℕ) (l : List Chunk) (c : Chunk) → nat_lt (length l) room ≡ false → least_due (pushed room l c) ≡ least_due l
-least_stay room l c e = ap (λ (b : Bool). least_due (if b then l ++ (c ∷ []) else l)) e
+least_stay room l c e = ap (λ (b : Bool). least_due (when b then l ++ (c ∷ []) else l)) e
 
 pub least_rest : (l : List Chunk) {c : Chunk} {m : List Chunk} → l ≡ c ∷ drop 1 l → m ≡ drop 1 l → least_due l ≤ least_due m
 least_rest l e q = omega (arith, ap least_due e, ap least_due q)
@@ -70,8 +70,8 @@ given_run : (number : ℕ) (l : List Chunk) → least_due l ≤ least_due (given
 given_run number [] = omega arith
 given_run number (c ∷ l) = one (is_of number c) refl (given_run number l)
   where
-    one : (b : Bool) → is_of number c ≡ b → least_due l ≤ least_due (given_up_run number l) → least_due (c ∷ l) ≤ least_due (if b then (given_up number c ∷ given_up_run number l) else (c ∷ l))
-    one true e h = omega (arith, h, ap (λ (b : Bool). due_of (if b then marked 0 c.acked true false c else c)) e, given_never c, least_never l)
+    one : (b : Bool) → is_of number c ≡ b → least_due l ≤ least_due (given_up_run number l) → least_due (c ∷ l) ≤ least_due (when b then (given_up number c ∷ given_up_run number l) else (c ∷ l))
+    one true e h = omega (arith, h, ap (λ (b : Bool). due_of (when b then marked 0 c.acked true false c else c)) e, given_never c, least_never l)
     one false e h = omega arith
 
 pub least_given : (number from : ℕ) (l : List Chunk) → least_due l ≤ least_due (given_up_from number from l)
@@ -96,5 +96,5 @@ not_due now w c h = go c.abandoned refl
 pub none_due : (now : ℕ) (w : Pending) (t : ℕ) (l : List Chunk) → now < least_due l → tsns_of (overdue_entry now w) t l ≡ []
 none_due now w t [] h = refl
 none_due now w t (c ∷ l) h =
-    ap (λ (b : Bool). if b then (t ∷ tsns_of (overdue_entry now w) ((t + 1) % tsns) l) else tsns_of (overdue_entry now w) ((t + 1) % tsns) l) (not_due now w c (omega arith))
+    ap (λ (b : Bool). when b then (t ∷ tsns_of (overdue_entry now w) ((t + 1) % tsns) l) else tsns_of (overdue_entry now w) ((t + 1) % tsns) l) (not_due now w c (omega arith))
     ∙ none_due now w ((t + 1) % tsns) l (omega arith)

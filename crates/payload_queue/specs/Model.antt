@@ -7,7 +7,7 @@ use Rattle.limits.specs.Limits.{tsns}
 use Rattle.limits.specs.Moments.{passed}
 use Rattle.model.specs.declared.Chunk.{Chunk}
 use Rattle.model.specs.declared.Found.{Found}
-use Rattle.model.specs.Lists.{if◌then◌else◌, some_of, adjust}
+use Rattle.model.specs.Lists.{when◌then◌else◌, some_of, adjust}
 use Rattle.model.specs.State.{Sender, Flight, Out, Pending as Waiting, with_entries, place, in_flight, is_of}
 use Rattle.model.specs.Rings.{tsns_of, expired_entry}
 use Rattle.model.specs.Flight.{acknowledged, acknowledging, popping}
@@ -34,7 +34,7 @@ popping_is (c ∷ l) t s = go (t == s.flight.oldest)
     told : Pop → Out Found
     told r = record { after = with_flight r.flight s; says = r.front }
 
-    go : (b : Bool) → (if b then told popped else told stays) ≡ told (if b then popped else stays)
+    go : (b : Bool) → (when b then told popped else told stays) ≡ told (when b then popped else stays)
     go true = refl
     go false = refl
 
@@ -71,8 +71,8 @@ listed_is : (now : ℕ) (w : Pending) (p : Waiting) (t : ℕ) (l : List Chunk) �
 listed_is now w p t [] h = refl
 listed_is now w p t (c ∷ l) h =
     let rest = listed_is now w p ((t + 1) % tsns) l (λ i z. h (suc i) (omega arith)) in
-    ap (λ (b : Bool). if b then (t ∷ tsns_of (overdue_entry now w) ((t + 1) % tsns) l) else tsns_of (overdue_entry now w) ((t + 1) % tsns) l) (overdue_is now w p c (h 0 (omega arith)))
-    ∙ ap (λ (m : List ℕ). if expired_entry now p c then (t ∷ m) else m) rest
+    ap (λ (b : Bool). when b then (t ∷ tsns_of (overdue_entry now w) ((t + 1) % tsns) l) else tsns_of (overdue_entry now w) ((t + 1) % tsns) l) (overdue_is now w p c (h 0 (omega arith)))
+    ∙ ap (λ (m : List ℕ). when expired_entry now p c then (t ∷ m) else m) rest
 
 pub expired_is : (now : ℕ) (w : Pending) (p : Waiting) (f : Flight) → Names w p f.entries → overdue_tsns now w f ≡ tsns_of (expired_entry now p) f.oldest f.entries
 expired_is now w p f h = listed_is now w p f.oldest f.entries h

@@ -2,7 +2,7 @@
 use Rattle.std.specs.Prelude.{◌≡◌, ℕ, zero, suc, ◌+◌, ◌-◌, ◌<◌, ◌≤◌, Bool, true, false, List, [], ◌∷◌, length, get_or, slice_index_or, refl}
 use Rattle.std.proofs.Common.{sym, ap, ◌∙◌, add-one, arith}
 use Rattle.model.specs.declared.Chunk.{Chunk}
-use Rattle.model.specs.Lists.{if◌then◌else◌, adjust}
+use Rattle.model.specs.Lists.{when◌then◌else◌, adjust}
 use Rattle.model.specs.State.{is_of}
 use Rattle.model.specs.Rings.{bytes, marked, given_up}
 use Rattle.chunk_slot.specs.Chunks.{blank_chunk}
@@ -10,16 +10,16 @@ use Rattle.chunk_slot.specs.Chunks.{blank_chunk}
 -- where the run begins that reaches up to the place
 abbrev pub first_of : (number near : ℕ) → List Chunk → ℕ
 first_of n zero l = 0
-first_of n (suc i) l = if is_of n (slice_index_or l i blank_chunk) then first_of n i l else suc i
+first_of n (suc i) l = when is_of n (slice_index_or l i blank_chunk) then first_of n i l else suc i
 
 -- its leading run is given up, and holds so much
 abbrev pub given_up_run : (number : ℕ) → List Chunk → List Chunk
 given_up_run n [] = []
-given_up_run n (c ∷ l) = if is_of n c then (given_up n c ∷ given_up_run n l) else (c ∷ l)
+given_up_run n (c ∷ l) = when is_of n c then (given_up n c ∷ given_up_run n l) else (c ∷ l)
 
 abbrev pub held_run : (number : ℕ) → List Chunk → ℕ
 held_run n [] = 0
-held_run n (c ∷ l) = if is_of n c then c.length + held_run n l else 0
+held_run n (c ∷ l) = when is_of n c then c.length + held_run n l else 0
 
 -- the same of the run from a place on
 abbrev pub given_up_from : (number from : ℕ) → List Chunk → List Chunk
@@ -44,7 +44,7 @@ module _ (n : ℕ) where
 
   module _ (l : List Chunk) (i : ℕ) (z : 0 < i) where
     abbrev picks : Bool → ℕ
-    picks b = if b then first_of n (i - 1) l else suc (i - 1)
+    picks b = when b then first_of n (i - 1) l else suc (i - 1)
 
     down : suc (i - 1) ≡ i
     down = omega arith
@@ -64,19 +64,19 @@ module _ (n : ℕ) where
 
   given_suc : (m : List Chunk) (i : ℕ) → i < length m → is_of n (slice_index_or m i blank_chunk) ≡ true → given_up_from n (suc i) (adjust (given_up n) i m) ≡ given_up_from n i m
   given_suc [] i h e = absurd (omega arith)
-  given_suc (c ∷ m) zero h e = sym (ap (λ (b : Bool). if b then (given_up n c ∷ given_up_run n m) else (c ∷ m)) e)
+  given_suc (c ∷ m) zero h e = sym (ap (λ (b : Bool). when b then (given_up n c ∷ given_up_run n m) else (c ∷ m)) e)
   given_suc (c ∷ m) (suc i) h e = ap (λ (r : List Chunk). c ∷ r) (given_suc m i (omega arith) e)
 
   held_suc : (m : List Chunk) (i : ℕ) → i < length m → is_of n (slice_index_or m i blank_chunk) ≡ true → (get_or m i blank_chunk).length + held_from n (suc i) (adjust (given_up n) i m) ≡ held_from n i m
   held_suc [] i h e = absurd (omega arith)
-  held_suc (c ∷ m) zero h e = sym (ap (λ (b : Bool). if b then c.length + held_run n m else 0) e)
+  held_suc (c ∷ m) zero h e = sym (ap (λ (b : Bool). when b then c.length + held_run n m else 0) e)
   held_suc (c ∷ m) (suc i) h e = held_suc m i (omega arith) e
 
   -- nothing is left to give up
   pub given_stop : (m : List Chunk) (i : ℕ) → is_of n (slice_index_or m i blank_chunk) ≡ false → (m ≡ given_up_from n i m) × (held_from n i m ≡ 0)
   given_stop [] zero e = (refl, refl)
   given_stop [] (suc i) e = (refl, refl)
-  given_stop (c ∷ m) zero e = (sym (ap (λ (b : Bool). if b then (given_up n c ∷ given_up_run n m) else (c ∷ m)) e), ap (λ (b : Bool). if b then c.length + held_run n m else 0) e)
+  given_stop (c ∷ m) zero e = (sym (ap (λ (b : Bool). when b then (given_up n c ∷ given_up_run n m) else (c ∷ m)) e), ap (λ (b : Bool). when b then c.length + held_run n m else 0) e)
   given_stop (c ∷ m) (suc i) e = let z = given_stop m i e in (ap (λ (r : List Chunk). c ∷ r) z.0, z.1)
 
   pub given_end : (m : List Chunk) (i : ℕ) → length m ≤ i → (m ≡ given_up_from n i m) × (held_from n i m ≡ 0)
@@ -120,8 +120,8 @@ module _ (n : ℕ) where
   run_bytes (c ∷ l) = by (is_of n c) refl (run_bytes l)
     where
       by : (b : Bool) → is_of n c ≡ b → bytes (given_up_run n l) + held_run n l ≡ bytes l
-          → bytes (if b then (given_up n c ∷ given_up_run n l) else (c ∷ l)) + (if b then c.length + held_run n l else 0) ≡ bytes (c ∷ l)
-      by true e h = omega (arith, h, ap (λ (b : Bool). (if b then marked 0 c.acked true false c else c).length) e)
+          → bytes (when b then (given_up n c ∷ given_up_run n l) else (c ∷ l)) + (when b then c.length + held_run n l else 0) ≡ bytes (c ∷ l)
+      by true e h = omega (arith, h, ap (λ (b : Bool). (when b then marked 0 c.acked true false c else c).length) e)
       by false e h = omega arith
 
   pub from_bytes : (i : ℕ) (l : List Chunk) → bytes (given_up_from n i l) + held_from n i l ≡ bytes l

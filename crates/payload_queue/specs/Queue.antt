@@ -8,7 +8,7 @@ use Rattle.limits.specs.Moments.{passed}
 use Rattle.model.specs.declared.Chunk.{Chunk}
 use Rattle.model.specs.declared.Found.{Found}
 use Rattle.model.specs.declared.Listed.{Listed}
-use Rattle.model.specs.Lists.{if◌then◌else◌, adjust}
+use Rattle.model.specs.Lists.{when◌then◌else◌, adjust}
 use Rattle.model.specs.State.{Flight, place}
 use Rattle.model.specs.Told.{told_listed}
 use Rattle.model.specs.Rings.{bytes, tsns_of}
@@ -37,7 +37,7 @@ due_at (Moment.At d) = d
 
 -- that of an entry
 unfoldable pub due_of : Chunk → ℕ
-due_of c = if c.abandoned then never else due_at c.message.deadline
+due_of c = when c.abandoned then never else due_at c.message.deadline
 
 abbrev pub least_due : List Chunk → ℕ
 least_due [] = never
@@ -97,7 +97,7 @@ outcome r ws = record { flight = flight_of r.queue ws; front = r.front }
 abbrev pub popped_of : List Chunk → (tsn : ℕ) → Flight → Pop
 popped_of [] t f = record { flight = f; front = Found.Nothing }
 popped_of (c ∷ l) t f =
-    if t == f.oldest then record { flight = record { oldest = (f.oldest + 1) % tsns; entries = l }; front = Found.One c }
+    when t == f.oldest then record { flight = record { oldest = (f.oldest + 1) % tsns; entries = l }; front = Found.One c }
     else record { flight = f; front = Found.Nothing }
 
 abbrev pub popped : (tsn : ℕ) → Flight → Pop
@@ -122,11 +122,11 @@ overdue_tsns now w f = tsns_of (overdue_entry now w) f.oldest f.entries
 
 -- the answer: refused where the lent list is too short
 abbrev pub listed : (ts out : List ℕ) → Listed
-listed ts out = if nat_lt (length out) (length ts) then Listed.Refused list_short else Listed.Count (length ts)
+listed ts out = when nat_lt (length out) (length ts) then Listed.Refused list_short else Listed.Count (length ts)
 
 -- the TSNs stand at the front where they fit, and the rest is as it was
 abbrev pub written : (ts out : List ℕ) → List ℕ
-written ts out = if nat_lt (length out) (length ts) then out else ts ++ drop (length ts) out
+written ts out = when nat_lt (length out) (length ts) then out else ts ++ drop (length ts) out
 
 -- a list of TSNs is told: `out` is lent, and `out'` are its cells then
 abbrev pub Lists : (ts out out' : List ℕ) → Listed → Type 0
@@ -138,7 +138,7 @@ Writes ts out out' n = (n ≡ length ts) × (out' ≡ ts ++ drop (length ts) out
 
 -- what is listed: before the bound nothing is looked for
 abbrev pub sought_tsns : (due now : ℕ) → Pending → Flight → List ℕ
-sought_tsns due now w f = if nat_lt now due then [] else overdue_tsns now w f
+sought_tsns due now w f = when nat_lt now due then [] else overdue_tsns now w f
 
 -- that list is told, and the flight stays; a refused call leaves the queue as it was
 abbrev pub Finds : (now : ℕ) → Pending → PayloadQueue → List ℕ → (out out' : List ℕ) → Overdue → Type 0

@@ -3,7 +3,7 @@
 use Rattle.std.specs.Prelude.{◌≡◌, ℕ, zero, suc, ◌+◌, ◌%◌, ◌^◌, ◌<◌, Bool, true, false, List, [], ◌∷◌, ◌++◌, map, length, nat_lt, slice_index_or, refl}
 use Rattle.std.proofs.Common.{ap, ◌∙◌, arith}
 use Rattle.model.specs.declared.Chunk.{Chunk}
-use Rattle.model.specs.Lists.{if◌then◌else◌, adjust}
+use Rattle.model.specs.Lists.{when◌then◌else◌, adjust}
 use Rattle.model.specs.Rings.{bytes}
 use Rattle.model.specs.Flight.{acknowledged, to_retransmit}
 use Rattle.chunk_slot.specs.Chunks.{blank_chunk}
@@ -22,10 +22,10 @@ bytes_fit r ws = omega (arith, held_bytes r ws)
 -- ---- what a change of the entries does to the sum
 
 pub bytes_pushed : (room : ℕ) (l : List Chunk) (c : Chunk) → nat_lt (length l) room ≡ true → bytes (pushed room l c) ≡ bytes l + c.length
-bytes_pushed room l c e = ap (λ (b : Bool). bytes (if b then l ++ (c ∷ []) else l)) e ∙ omega (arith, bytes_append l (c ∷ []))
+bytes_pushed room l c e = ap (λ (b : Bool). bytes (when b then l ++ (c ∷ []) else l)) e ∙ omega (arith, bytes_append l (c ∷ []))
 
 pub bytes_stay : (room : ℕ) (l : List Chunk) (c : Chunk) → nat_lt (length l) room ≡ false → bytes (pushed room l c) ≡ bytes l
-bytes_stay room l c e = ap (λ (b : Bool). bytes (if b then l ++ (c ∷ []) else l)) e
+bytes_stay room l c e = ap (λ (b : Bool). bytes (when b then l ++ (c ∷ []) else l)) e
 
 pub bytes_acked : (i : ℕ) (l : List Chunk) → bytes (adjust acknowledged i l) + (slice_index_or l i blank_chunk).length ≡ bytes l
 bytes_acked zero [] = refl

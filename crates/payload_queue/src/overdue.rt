@@ -1,7 +1,7 @@
 // What has expired in flight: the TSNs whose entry is at or past its deadline, in the front of a lent list. Before the bound of the
 // deadlines nothing is looked for; behind a walk the bound is the least of them again.
 ghost use Rattle.std.specs.Prelude.{◌≡◌, ◌+◌, ◌<◌, ◌≤◌, true, length, nat_lt, slice_set};
-ghost use Rattle.model.specs.Lists.{if◌then◌else◌};
+ghost use Rattle.model.specs.Lists.{when◌then◌else◌};
 ghost use Rattle.rows.specs.Walks.{count};
 ghost use Rattle.ring.specs.Held.{held};
 ghost use Rattle.payload_queue.specs.Queue.{Finds, is_awaited, least_due, overdue_entry, overdue_tsns, Writes};
@@ -46,7 +46,7 @@ fn is_overdue(chunk: Chunk, clock: u64, pending: Pending) -> bool
 }
 
 fn one(yes: bool) -> usize
-    ensures { (result ≡ (if yes then 1 else 0)) × (result ≤ 1) }
+    ensures { (result ≡ (when yes then 1 else 0)) × (result ≤ 1) }
 {
     if yes { 1 } else { 0 }
 }
@@ -81,7 +81,7 @@ fn is_short(ring: Ring, cells: &[u64], clock: u64, pending: Pending, places: usi
 // One more in the list, if so it is.
 fn note(out: &mut [u32], k: usize, tsn: u32, yes: bool) -> usize
     requires { yes ≡ true → k < length out.old }
-    ensures { (result ≡ k + (if yes then 1 else 0)) × (out.new ≡ (if yes then slice_set out.old k tsn else out.old)) }
+    ensures { (result ≡ k + (when yes then 1 else 0)) × (out.new ≡ (when yes then slice_set out.old k tsn else out.old)) }
 {
     if !yes {
         return k;

@@ -1,7 +1,7 @@
 -- A message's fragments have joined a ring: the queue then.
 use Rattle.std.specs.Prelude.{◌≡◌, ℕ, ◌+◌, ◌%◌, ◌^◌, Bool}
 use Rattle.std.proofs.Common.{sym, ap, ◌∙◌}
-use Rattle.model.specs.Lists.{if◌then◌else◌}
+use Rattle.model.specs.Lists.{when◌then◌else◌}
 use Rattle.ring.specs.declared.Ring.{Ring}
 use Rattle.pending_queue.specs.declared.cutting.Added.{Added}
 use Rattle.pending_queue.specs.declared.PendingQueue.{PendingQueue}
@@ -9,7 +9,7 @@ use Rattle.pending_queue.specs.declared.PendingQueue.{PendingQueue}
 -- the queue of which one ring and the bytes are others
 abbrev pub with_ring : (unordered : Bool) → Ring → (bytes : ℕ) → PendingQueue → PendingQueue
 with_ring u g n q =
-    record { unordered = if u then g else q.unordered; ordered = if u then q.ordered else g; bytes = n; selected = q.selected; unordered_is_selected = q.unordered_is_selected }
+    record { unordered = when u then g else q.unordered; ordered = when u then q.ordered else g; bytes = n; selected = q.selected; unordered_is_selected = q.unordered_is_selected }
 
 -- the queue whose ring has them
 abbrev pub with_added : (unordered : Bool) → Added → PendingQueue → PendingQueue

@@ -7,7 +7,7 @@ use Rattle.std.proofs.lemmas.Bool.{lt-leb}
 use Rattle.limits.specs.Limits.{offset_max}
 use Rattle.model.specs.declared.Chunk.{Chunk}
 use Rattle.model.specs.declared.Message.{Message}
-use Rattle.model.specs.Lists.{if◌then◌else◌}
+use Rattle.model.specs.Lists.{when◌then◌else◌}
 use Rattle.model.specs.State.{Pending, at, lane_of, with_ring}
 use Rattle.model.specs.Messages.{pieces, piece, cut}
 use Rattle.model.specs.Rings.{bytes}
@@ -19,7 +19,7 @@ fits room m o n l = nat_le o offset_max && nat_le (length l + pieces n m) room
 
 -- the ring behind that: with its fragments, or as it was
 abbrev pub added : (room : ℕ) → Message → (maximum offset length : ℕ) → List Chunk → List Chunk
-added room x m o n l = if fits room m o n l then l ++ cut x true (pieces n m) m o n else l
+added room x m o n l = when fits room m o n l then l ++ cut x true (pieces n m) m o n else l
 
 -- they join, all or none: the ring was `l` and is `k` then; the bytes that they bring and whether there was room are told
 abbrev pub Adds : (room : ℕ) → Message → (maximum offset length : ℕ) → (l k : List Chunk) → (bytes : ℕ) → Bool → Type 0
@@ -57,22 +57,22 @@ module _ (room m o n : ℕ) (l : List Chunk) where
 
   module _ (x : Message) where
     pub added_none : fits room m o n l ≡ false → l ≡ added room x m o n l
-    added_none e = sym (ap (λ (b : Bool). if b then l ++ cut x true (pieces n m) m o n else l) e)
+    added_none e = sym (ap (λ (b : Bool). when b then l ++ cut x true (pieces n m) m o n else l) e)
 
     pub added_all : fits room m o n l ≡ true → l ++ cut x true (pieces n m) m o n ≡ added room x m o n l
-    added_all e = sym (ap (λ (b : Bool). if b then l ++ cut x true (pieces n m) m o n else l) e)
+    added_all e = sym (ap (λ (b : Bool). when b then l ++ cut x true (pieces n m) m o n else l) e)
 
 -- ---- the loop that adds them: k are to come, from the offset o on, of the n bytes that are left
 
 -- the bytes of the next one: the last has the rest
 abbrev pub size_of : (k maximum left : ℕ) → ℕ
-size_of k m n = if k == 1 then n else m
+size_of k m n = when k == 1 then n else m
 
 cut_step : (x : Message) (b : Bool) (k m o n : ℕ) → piece x b (suc k == 1) o (size_of (suc k) m n) ∷ cut x false k m (o + m) (n - m) ≡ cut x b (suc k) m o n
 cut_step x b zero m o n = refl
 cut_step x b (suc k) m o n =
     let z : suc (suc k) ≡ 1 → ⊥ = λ e. omega arith in
-    ap (λ (t : Bool). piece x b t o (if t then n else m) ∷ cut x false (suc k) m (o + m) (n - m)) (ne_eqb (suc (suc k)) 1 z)
+    ap (λ (t : Bool). piece x b t o (when t then n else m) ∷ cut x false (suc k) m (o + m) (n - m)) (ne_eqb (suc (suc k)) 1 z)
 
 -- a turn: f goes to the end of l, which is l' then, and w bytes are left
 pub cut_turn : (x : Message) (b : Bool) (k m o n : ℕ) (l : List Chunk) {f : Chunk} {l' all : List Chunk} {w : ℕ} → 0 < k → f ≡ piece x b (k == 1) o (size_of k m n)

@@ -7,7 +7,7 @@ use Rattle.model.specs.declared.Lane.{Lane}
 use Rattle.model.specs.declared.Lane.TheVariants.{Unordered, Ordered}
 use Rattle.model.specs.declared.UnderWay.{UnderWay}
 use Rattle.model.specs.declared.UnderWay.TheVariants.{Idle}
-use Rattle.model.specs.Lists.{if◌then◌else◌, first}
+use Rattle.model.specs.Lists.{when◌then◌else◌, first}
 use Rattle.model.specs.State.{Pending, at, lane_of, with_ring}
 use Rattle.model.specs.Rings.{lane_ahead, head_lane, head, under_way_after, bytes}
 use Rattle.model.specs.Flight.{found}
@@ -58,7 +58,7 @@ one_from : (p : Pending) (l : Lane) (x : List Chunk) (c : Chunk) → found (firs
 one_from p l x c e = sym (ap (λ (y : List Chunk). popped_from l y p) (first_one x c e))
 
 -- the flags behind a chunk
-flags_after : (e b : Bool) → under_way_of (not e) b ≡ (if e then Idle else under_way_of true b)
+flags_after : (e b : Bool) → under_way_of (not e) b ≡ (when e then Idle else under_way_of true b)
 flags_after true b = refl
 flags_after false b = refl
 

@@ -5,7 +5,7 @@ use Rattle.limits.specs.declared.Moment.TheVariants.{At}
 use Rattle.model.specs.declared.Chunk.{Chunk}
 use Rattle.model.specs.declared.Lane.{Lane}
 use Rattle.model.specs.declared.Lane.TheVariants.{Unordered, Ordered}
-use Rattle.model.specs.Lists.{if◌then◌else◌}
+use Rattle.model.specs.Lists.{when◌then◌else◌}
 use Rattle.model.specs.State.{Pending, at, in_rings}
 use Rattle.model.specs.Rings.{started, has_lifetime, renewed, with_message, bytes}
 use Rattle.demands.specs.States.{Ascending}
@@ -28,7 +28,7 @@ module _ (now k : ℕ) where
   started_bytes [] = refl
   started_bytes (c ∷ l) = by (all (unseen k) (c ∷ l)) (started_bytes l)
     where
-      by : (b : Bool) → bytes (started_end now k l) ≡ bytes l → bytes (if b then map (started now k) (c ∷ l) else (c ∷ started_end now k l)) ≡ bytes (c ∷ l)
+      by : (b : Bool) → bytes (started_end now k l) ≡ bytes l → bytes (when b then map (started now k) (c ∷ l) else (c ∷ started_end now k l)) ≡ bytes (c ∷ l)
       by true h = bytes_map (started now k) (λ (d : Chunk). refl) (c ∷ l)
       by false h = omega arith
 
@@ -41,7 +41,7 @@ module _ (now k : ℕ) where
       ap₂ (λ (x y : Bool). x && y) (le-leb k c.message.number z) (unseen_all c.message.number l z a.1)
 
   seen_same : (c : Chunk) → unseen k c ≡ false → c ≡ started now k c
-  seen_same c e = sym (ap (λ (b : Bool). with_message (if b && has_lifetime c.message then renewed c.message.ssn (At (now + c.message.reliability.value)) c.message else c.message) c) e)
+  seen_same c e = sym (ap (λ (b : Bool). with_message (when b && has_lifetime c.message then renewed c.message.ssn (At (now + c.message.reliability.value)) c.message else c.message) c) e)
 
   pub started_all : (n : ℕ) (l : List Chunk) → Ascending n l → started_end now k l ≡ map (started now k) l
   started_all n [] a = refl
@@ -52,7 +52,7 @@ module _ (now k : ℕ) where
           let z = leb-true k c.message.number e in
           end_all (unseen k) (started now k) (c ∷ l) (ap₂ (λ (x y : Bool). x && y) e (unseen_all c.message.number l z a.1))
       by false e h =
-          ap (λ (b : Bool). if b && all (unseen k) l then map (started now k) (c ∷ l) else (c ∷ started_end now k l)) e
+          ap (λ (b : Bool). when b && all (unseen k) l then map (started now k) (c ∷ l) else (c ∷ started_end now k l)) e
           ∙ ap₂ (λ (d : Chunk) (r : List Chunk). d ∷ r) (seen_same c e) h
 
   -- so, in both rings

@@ -1,12 +1,12 @@
 -- What a queue of pending chunks means, and the kept sum of its bytes.
-use Rattle.std.specs.Prelude.{◌≡◌, ℕ, ◌+◌, ◌%◌, ◌^◌, ◌<◌, Bool, true, false, List, [], map, length, ◌==◌, refl}
+use Rattle.std.specs.Prelude.{◌≡◌, ℕ, ◌+◌, ◌%◌, ◌^◌, ◌<◌, Bool, true, false, List, [], map, ◌==◌, refl}
 use Rattle.std.proofs.Common.{arith}
 use Rattle.limits.specs.Flags.{is_set}
 use Rattle.model.specs.declared.Chunk.{Chunk}
 use Rattle.model.specs.declared.UnderWay.{UnderWay}
 use Rattle.model.specs.declared.UnderWay.TheVariants.{Idle, Sending}
 use Rattle.model.specs.State.{Pending, lane_of}
-use Rattle.model.specs.Lists.{if◌then◌else◌}
+use Rattle.model.specs.Lists.{when◌then◌else◌}
 use Rattle.model.specs.Rings.{with_message, renewed, ssn_before, lowered, bytes}
 use Rattle.ring.specs.declared.Ring.{Ring}
 use Rattle.ring.specs.Held.{held}
@@ -44,7 +44,7 @@ both w u o = λ i. record { under_way = w i; unordered = u i; ordered = o i }
 pub lowered_bytes : (stream : ℕ) (l : List Chunk) → bytes (map (lowered stream) l) ≡ bytes l
 lowered_bytes stream = bytes_map (lowered stream) (λ (c : Chunk). by c (c.message.stream == stream))
   where
-    by : (c : Chunk) (b : Bool) → (if b then with_message (renewed (ssn_before c.message.ssn) c.message.deadline c.message) c else c).length ≡ c.length
+    by : (c : Chunk) (b : Bool) → (when b then with_message (renewed (ssn_before c.message.ssn) c.message.deadline c.message) c else c).length ≡ c.length
     by c true = refl
     by c false = refl
 

@@ -1,7 +1,7 @@
 -- A message is removed from the front of each ring.
 use Rattle.std.specs.Prelude.{◌≡◌, ℕ, suc, ◌+◌, ◌≤◌, Bool, true, false, not, List, [], ◌∷◌, ◌++◌, map, length, ◌≢◌, refl}
 use Rattle.std.proofs.Common.{sym, ap, ap₂, ◌∙◌, arith, eq-eqb, ne_eqb}
-use Rattle.std.proofs.Math.Option.{Option, none, some}
+use Rattle.std.proofs.Math.Option.{Option}
 use mathlib.Core.List.{tail-eq_of_cons-eq}
 use Rattle.model.specs.declared.Chunk.{Chunk}
 use Rattle.model.specs.declared.Found.{Found}
@@ -9,7 +9,7 @@ use Rattle.model.specs.declared.Lane.{Lane}
 use Rattle.model.specs.declared.Lane.TheVariants.{Unordered, Ordered}
 use Rattle.model.specs.declared.UnderWay.{UnderWay}
 use Rattle.model.specs.declared.UnderWay.TheVariants.{Idle}
-use Rattle.model.specs.Lists.{if◌then◌else◌, keep, last}
+use Rattle.model.specs.Lists.{when◌then◌else◌, keep, last}
 use Rattle.model.specs.State.{Pending, at, is_of}
 use Rattle.model.specs.Rings.{head, pending_of, ended, without, lowered, bytes}
 use Rattle.model.specs.Flight.{found}
@@ -50,7 +50,7 @@ module _ (n : ℕ) where
   keep_short p [] = omega arith
   keep_short p (c ∷ l) = by (p c) (keep_short p l)
     where
-      by : (b : Bool) → length (keep p l) ≤ length l → length (if b then (c ∷ keep p l) else keep p l) ≤ suc (length l)
+      by : (b : Bool) → length (keep p l) ≤ length l → length (when b then (c ∷ keep p l) else keep p l) ≤ suc (length l)
       by true h = omega arith
       by false h = omega arith
 
@@ -59,8 +59,8 @@ module _ (n : ℕ) where
   none_kept [] e = refl
   none_kept (c ∷ l) e = by (is_of n c) e (none_kept l)
     where
-      by : (b : Bool) → (if not b then (c ∷ keep (λ (d : Chunk). not (is_of n d)) l) else keep (λ (d : Chunk). not (is_of n d)) l) ≡ c ∷ l
-          → (keep (λ (d : Chunk). not (is_of n d)) l ≡ l → [] ≡ keep (is_of n) l) → [] ≡ (if b then (c ∷ keep (is_of n) l) else keep (is_of n) l)
+      by : (b : Bool) → (when not b then (c ∷ keep (λ (d : Chunk). not (is_of n d)) l) else keep (λ (d : Chunk). not (is_of n d)) l) ≡ c ∷ l
+          → (keep (λ (d : Chunk). not (is_of n d)) l ≡ l → [] ≡ keep (is_of n) l) → [] ≡ (when b then (c ∷ keep (is_of n) l) else keep (is_of n) l)
       by true e h = absurd (omega (arith, ap length e, keep_short (λ (d : Chunk). not (is_of n d)) l))
       by false e h = h (tail-eq_of_cons-eq e)
 
@@ -68,9 +68,9 @@ module _ (n : ℕ) where
   run_kept [] e = refl
   run_kept (c ∷ l) e = by (is_of n c) e (run_kept l)
     where
-      by : (b : Bool) → (if not b then (c ∷ keep (λ (d : Chunk). not (is_of n d)) l) else keep (λ (d : Chunk). not (is_of n d)) l) ≡ (if b then drop_run n l else (c ∷ l))
+      by : (b : Bool) → (when not b then (c ∷ keep (λ (d : Chunk). not (is_of n d)) l) else keep (λ (d : Chunk). not (is_of n d)) l) ≡ (when b then drop_run n l else (c ∷ l))
           → (keep (λ (d : Chunk). not (is_of n d)) l ≡ drop_run n l → take_while (is_of n) l ≡ keep (is_of n) l)
-          → (if b then (c ∷ take_while (is_of n) l) else []) ≡ (if b then (c ∷ keep (is_of n) l) else keep (is_of n) l)
+          → (when b then (c ∷ take_while (is_of n) l) else []) ≡ (when b then (c ∷ keep (is_of n) l) else keep (is_of n) l)
       by true e h = ap (λ (r : List Chunk). c ∷ r) (h e)
       by false e h = none_kept l (tail-eq_of_cons-eq e)
 
@@ -87,27 +87,27 @@ module _ (n : ℕ) (w : UnderWay) where
   pub ended_none : (h : Option Chunk) → found h ≡ Found.Nothing → w ≡ ended n h w
   ended_none h e = sym (ap (λ (o : Option Chunk). ended n o w) (found_none h e))
 
-  ended_by : (h : Option Chunk) (c : Chunk) → found h ≡ Found.One c → (if is_of n c then Idle else w) ≡ ended n h w
+  ended_by : (h : Option Chunk) (c : Chunk) → found h ≡ Found.One c → (when is_of n c then Idle else w) ≡ ended n h w
   ended_by h c e = sym (ap (λ (o : Option Chunk). ended n o w) (found_some h c e))
 
   pub ended_one : (h : Option Chunk) (c : Chunk) → found h ≡ Found.One c → c.message.number ≡ n → Idle ≡ ended n h w
-  ended_one h c e q = sym (ap (λ (b : Bool). if b then Idle else w) (eq-eqb c.message.number n q)) ∙ ended_by h c e
+  ended_one h c e q = sym (ap (λ (b : Bool). when b then Idle else w) (eq-eqb c.message.number n q)) ∙ ended_by h c e
 
   pub ended_other : (h : Option Chunk) (c : Chunk) → found h ≡ Found.One c → (c.message.number ≢ n) → w ≡ ended n h w
-  ended_other h c e q = sym (ap (λ (b : Bool). if b then Idle else w) (ne_eqb c.message.number n q)) ∙ ended_by h c e
+  ended_other h c e q = sym (ap (λ (b : Bool). when b then Idle else w) (ne_eqb c.message.number n q)) ∙ ended_by h c e
 
 -- ---- what is left, and its bytes
 
 pub drop_run_lem : (n : ℕ) (l : List Chunk) → drop_while (is_of n) l ≡ drop_run n l
 drop_run_lem n [] = refl
-drop_run_lem n (c ∷ l) = ap (λ (r : List Chunk). if is_of n c then r else (c ∷ l)) (drop_run_lem n l)
+drop_run_lem n (c ∷ l) = ap (λ (r : List Chunk). when is_of n c then r else (c ∷ l)) (drop_run_lem n l)
 
 run_bytes : (n : ℕ) (l : List Chunk) → bytes (drop_run n l) + bytes (take_while (is_of n) l) ≡ bytes l
 run_bytes n [] = refl
 run_bytes n (c ∷ l) = by (is_of n c) (run_bytes n l)
   where
     by : (b : Bool) → bytes (drop_run n l) + bytes (take_while (is_of n) l) ≡ bytes l
-        → bytes (if b then drop_run n l else (c ∷ l)) + bytes (if b then (c ∷ take_while (is_of n) l) else []) ≡ bytes (c ∷ l)
+        → bytes (when b then drop_run n l else (c ∷ l)) + bytes (when b then (c ∷ take_while (is_of n) l) else []) ≡ bytes (c ∷ l)
     by true h = omega arith
     by false h = omega arith
 

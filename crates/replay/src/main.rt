@@ -8,6 +8,7 @@ use rto::{Made, RtoManager};
 use script::Line;
 use script::commands::Command;
 use sender_head::Head;
+use std::io::Read;
 use timer::{Maximum, TimerTable};
 
 // All that a script's lines change, but the cells, the wire and the memory; `lent` bytes of the memory are lent, and `at` is the place behind the
@@ -23,31 +24,39 @@ struct World {
 
 // ---- the state
 
-fn sender_part(world: World, cells: &[u64], out: &mut [u8], wanted: bool, at: usize) -> usize {
+fn sender_part(
+    rt: &impl Print,
+    world: World,
+    cells: &[u64],
+    out: &mut [u8],
+    wanted: bool,
+    at: usize,
+) -> usize {
     if wanted {
         let head = world.head;
-        return answers::state::whole(head, cells, out, at);
+        return answers::state::whole(rt, head, cells, out, at);
     }
     at
 }
 
-fn timers_part(world: World, out: &mut [u8], wanted: bool, at: usize) -> usize {
+fn timers_part(rt: &impl Print, world: World, out: &mut [u8], wanted: bool, at: usize) -> usize {
     if wanted {
         let table = world.table;
-        return clock_calls::timers_state(table, out, at);
+        return clock_calls::timers_state(rt, table, out, at);
     }
     at
 }
 
-fn rto_part(world: World, out: &mut [u8], wanted: bool, at: usize) -> usize {
+fn rto_part(rt: &impl Print, world: World, out: &mut [u8], wanted: bool, at: usize) -> usize {
     if wanted {
         let manager = world.manager;
-        return clock_calls::estimate(out, at, manager);
+        return clock_calls::estimate(rt, out, at, manager);
     }
     at
 }
 
 fn state(
+    rt: &impl Print,
     world: World,
     cells: &[u64],
     out: &mut [u8],
@@ -55,10 +64,10 @@ fn state(
     timers: bool,
     rto: bool,
 ) -> usize {
-    let p1 = sender_part(world, cells, out, sender, world.at);
-    let p2 = timers_part(world, out, timers, p1);
-    let p3 = rto_part(world, out, rto, p2);
-    lines::text(out, p3, b"end\n")
+    let p1 = sender_part(rt, world, cells, out, sender, world.at);
+    let p2 = timers_part(rt, world, out, timers, p1);
+    let p3 = rto_part(rt, world, out, rto, p2);
+    lines::text(rt, out, p3, b"end\n")
 }
 
 // ---- a line
@@ -70,18 +79,26 @@ struct Sender {
     at: usize,
 }
 
-fn stepped(h: Head, cells: &mut [u64], out: &mut [u8], at: usize, call: Call) -> Sender {
+fn stepped(
+    rt: &impl Print,
+    h: Head,
+    cells: &mut [u64],
+    out: &mut [u8],
+    at: usize,
+    call: Call,
+) -> Sender {
     let after = calls::step(h, cells, call);
     let head = after.head;
     let answer = after.answer;
     Sender {
         head: head,
-        at: answers::sender::answered(out, at, call, answer),
+        at: answers::sender::answered(rt, out, at, call, answer),
     }
 }
 
 // The front of the wire is a SACK; a length beyond the wire's is the wire's.
 fn sacked(
+    rt: &impl Print,
     h: Head,
     cells: &mut [u64],
     wire: &[u8],
@@ -95,12 +112,13 @@ fn sacked(
     let answer = after.answer;
     Sender {
         head: head,
-        at: answers::arrays::sacked(out, at, answer),
+        at: answers::arrays::sacked(rt, out, at, answer),
     }
 }
 
 // What fills or shows the script's arrays.
 fn of_arrays(
+    rt: &impl Print,
     wire: &mut [u8],
     memory: &mut [u8],
     out: &mut [u8],
@@ -108,21 +126,24 @@ fn of_arrays(
     command: Command,
 ) -> usize {
     match command {
-        Command::Wipe { byte } => answers::arrays::fill(wire, out, at, false, byte),
+        Command::Wipe { byte } => answers::arrays::fill(rt, wire, out, at, false, byte),
         Command::Put {
             at: from,
             width,
             value,
-        } => answers::arrays::put(wire, out, at, from, width, value),
-        Command::Look { at: from, count } => answers::arrays::look(wire, out, at, from, count),
-        Command::Fill { seed } => answers::arrays::fill(memory, out, at, true, seed),
-        Command::Read { at: from, count } => answers::arrays::look(memory, out, at, from, count),
+        } => answers::arrays::put(rt, wire, out, at, from, width, value),
+        Command::Look { at: from, count } => answers::arrays::look(rt, wire, out, at, from, count),
+        Command::Fill { seed } => answers::arrays::fill(rt, memory, out, at, true, seed),
+        Command::Read { at: from, count } => answers::arrays::look(
+            rt, memory, out, at, from, count,
+        ),
         _ => at,
     }
 }
 
 // What is asked of the sender alone, what is of the script's arrays, and a line that is no call.
 fn asked(
+    rt: &impl Print,
     h: Head,
     cells: &mut [u64],
     wire: &mut [u8],
@@ -133,30 +154,36 @@ fn asked(
     command: Command,
 ) -> usize {
     match command {
-        Command::Bad => lines::bad(out, at),
-        Command::List { clock } => answers::sender::expired_within(h, cells, out, at, clock, 256),
+        Command::Bad => lines::bad(rt, out, at),
+        Command::List { clock } => answers::sender::expired_within(
+            rt, h, cells, out, at, clock, 256,
+        ),
         Command::ListWithin { clock, room } => {
-            answers::sender::expired_within(h, cells, out, at, clock, room)
+            answers::sender::expired_within(rt, h, cells, out, at, clock, room)
         }
         Command::Counts => answers::sender::counts(
+            rt,
             h,
             cells,
             out,
             at,
             b"plen= pbytes= flen= fbytes=\n",
         ),
-        Command::Stream { identifier } => answers::sender::stream(h, cells, out, at, identifier),
+        Command::Stream { identifier } => answers::sender::stream(
+            rt, h, cells, out, at, identifier,
+        ),
         Command::SetBuffered { identifier, amount } => {
-            answers::sender::set_buffered(h, cells, out, at, identifier, amount)
+            answers::sender::set_buffered(rt, h, cells, out, at, identifier, amount)
         }
         Command::Data { tsn, room } => {
-            answers::arrays::data(h, cells, wire, memory, out, at, lent, tsn, room)
+            answers::arrays::data(rt, h, cells, wire, memory, out, at, lent, tsn, room)
         }
-        _ => of_arrays(wire, memory, out, at, command),
+        _ => of_arrays(rt, wire, memory, out, at, command),
     }
 }
 
 fn sender_call(
+    rt: &impl Print,
     h: Head,
     cells: &mut [u64],
     wire: &mut [u8],
@@ -169,13 +196,13 @@ fn sender_call(
     match command {
         Command::Sender { tsn, number } => Sender {
             head: sender_head::new(tsn, number),
-            at: lines::done(out, at),
+            at: lines::done(rt, out, at),
         },
-        Command::Run(call) => stepped(h, cells, out, at, call),
-        Command::Sack { length } => sacked(h, cells, wire, out, at, length),
+        Command::Run(call) => stepped(rt, h, cells, out, at, call),
+        Command::Sack { length } => sacked(rt, h, cells, wire, out, at, length),
         _ => Sender {
             head: h,
-            at: asked(h, cells, wire, memory, out, at, lent, command),
+            at: asked(rt, h, cells, wire, memory, out, at, lent, command),
         },
     }
 }
@@ -204,21 +231,22 @@ fn with_lent(mut world: World, lent: u64, at: usize) -> World {
     world
 }
 
-fn timers_call(world: World, out: &mut [u8], call: TimerCall) -> World {
+fn timers_call(rt: &impl Print, world: World, out: &mut [u8], call: TimerCall) -> World {
     let table = world.table;
-    let after = clock_calls::clock_call(table, out, world.at, call);
+    let after = clock_calls::clock_call(rt, table, out, world.at, call);
     let changed = after.table;
     with_table(world, changed, after.at)
 }
 
-fn rto_call(world: World, out: &mut [u8], call: RtoCall) -> World {
+fn rto_call(rt: &impl Print, world: World, out: &mut [u8], call: RtoCall) -> World {
     let manager = world.manager;
-    let after = clock_calls::estimate_call(manager, out, world.at, call);
+    let after = clock_calls::estimate_call(rt, manager, out, world.at, call);
     let changed = after.manager;
     with_manager(world, changed, after.at)
 }
 
 fn run(
+    rt: &impl Print,
     world: World,
     cells: &mut [u64],
     wire: &mut [u8],
@@ -228,23 +256,23 @@ fn run(
 ) -> World {
     let head = world.head;
     match command {
-        Command::Clock(call) => timers_call(world, out, call),
-        Command::Estimate(call) => rto_call(world, out, call),
+        Command::Clock(call) => timers_call(rt, world, out, call),
+        Command::Estimate(call) => rto_call(rt, world, out, call),
         Command::State {
             sender,
             timers,
             rto,
         } => {
-            let place = state(world, cells, out, sender, timers, rto);
+            let place = state(rt, world, cells, out, sender, timers, rto);
             with_head(world, head, place)
         }
         Command::Lend { count } => {
-            let place = lines::done(out, world.at);
+            let place = lines::done(rt, out, world.at);
             with_lent(world, count, place)
         }
         _ => {
             let after = sender_call(
-                head, cells, wire, memory, out, world.at, world.lent, command,
+                rt, head, cells, wire, memory, out, world.at, world.lent, command,
             );
             let changed = after.head;
             with_head(world, changed, after.at)
@@ -262,6 +290,7 @@ struct Reading {
 
 // One block of the input, byte by byte; a line may go on in the next.
 fn block(
+    rt: &impl Print,
     reading: Reading,
     cells: &mut [u64],
     wire: &mut [u8],
@@ -275,7 +304,7 @@ fn block(
     while i < bytes.len() {
         let byte = bytes[i];
         if byte == 10 {
-            world = run(world, cells, wire, memory, out, script::finish(line));
+            world = run(rt, world, cells, wire, memory, out, script::finish(line));
             line = script::start();
         } else {
             line = script::feed(line, byte);
@@ -326,6 +355,7 @@ struct Turn {
 }
 
 fn read_some(
+    rt: &(impl Input + Print),
     reading: Reading,
     cells: &mut [u64],
     wire: &mut [u8],
@@ -333,15 +363,15 @@ fn read_some(
     out: &mut [u8],
     input: &mut [u8],
 ) -> Turn {
-    let got = libc::read(libc::STDIN_FILENO, input);
-    if got <= 0 {
+    let mut reader = rt.reader();
+    let got = reader.read(input).unwrap_or(0);
+    if got == 0 {
         return Turn {
             reading: reading,
             ended: true,
         };
     }
-    let n = io::count(got, input);
-    let after = block(reading, cells, wire, memory, out, &input[..n]);
+    let after = block(rt, reading, cells, wire, memory, out, &input[..got]);
     Turn {
         reading: after,
         ended: false,
@@ -350,6 +380,7 @@ fn read_some(
 
 // The last line may have no end of its own.
 fn last_line(
+    rt: &impl Print,
     reading: Reading,
     cells: &mut [u64],
     wire: &mut [u8],
@@ -358,12 +389,13 @@ fn last_line(
 ) {
     let line = reading.line;
     let world = reading.world;
-    let after = run(world, cells, wire, memory, out, script::finish(line));
-    lines::flush(out, after.at);
+    let after = run(rt, world, cells, wire, memory, out, script::finish(line));
+    lines::flush(rt, out, after.at);
 }
 
 // A proved loop has to end, and nothing says that the input does: the blocks are counted down from a number that no run uses up.
 fn all(
+    rt: &(impl Input + Print),
     cells: &mut [u64],
     wire: &mut [u8],
     memory: &mut [u8],
@@ -376,7 +408,7 @@ fn all(
     };
     let mut blocks = u64::MAX;
     while blocks > 0 {
-        let next = read_some(reading, cells, wire, memory, out, input);
+        let next = read_some(rt, reading, cells, wire, memory, out, input);
         reading = next.reading;
         if next.ended {
             return reading;
@@ -386,12 +418,19 @@ fn all(
     reading
 }
 
-fn main() {
+fn main(rt: HostRuntime) {
     let mut cells = [0u64; 6656];
     let mut wire = [0u8; 65_544];
     let mut memory = [0u8; 65_544];
-    let mut input = io::large_buffer();
-    let mut out = io::large_buffer();
-    let reading = all(&mut cells, &mut wire, &mut memory, &mut out, &mut input);
-    last_line(reading, &mut cells, &mut wire, &mut memory, &mut out);
+    let mut input = [0u8; 65_536];
+    let mut out = [0u8; 65_536];
+    let reading = all(
+        &rt,
+        &mut cells,
+        &mut wire,
+        &mut memory,
+        &mut out,
+        &mut input,
+    );
+    last_line(&rt, reading, &mut cells, &mut wire, &mut memory, &mut out);
 }

@@ -2,7 +2,7 @@
 use Rattle.std.specs.Prelude.{◌≡◌, refl, Bool, true, false, ◌&&◌, ℕ, zero, suc, ◌-◌, ◌≤◌, ◌<◌, List, [], ◌∷◌, ◌++◌, map, length, get_or, take, drop}
 use Rattle.std.proofs.Common.{sym, ap, ◌∙◌, not-suc-le-zero, le_of_suc-le-suc, arith, append-nil, drop_of_length-le, take_all}
 use Rattle.std.proofs.Math.Bool.{and-false}
-use Rattle.model.specs.Lists.{if◌then◌else◌, adjust}
+use Rattle.model.specs.Lists.{when◌then◌else◌, adjust}
 use Rattle.rows.specs.Walks.{all, map_end}
 
 module _ {A : Type 0} where
@@ -33,14 +33,14 @@ module _ {A : Type 0} where
 
     pub end_all : (l : List A) → all p l ≡ true → map_end p f l ≡ map f l
     end_all [] a = refl
-    end_all (x ∷ l) a = ap (λ (b : Bool). if b then map f (x ∷ l) else (x ∷ map_end p f l)) a
+    end_all (x ∷ l) a = ap (λ (b : Bool). when b then map f (x ∷ l) else (x ∷ map_end p f l)) a
 
     end_here : (l : List A) (j : ℕ) (d : A) → j < length l → all p (drop (suc j) l) ≡ true → p (get_or l j d) ≡ false → map_end p f l ≡ tailed f (suc j) l
     end_here [] j d h a q = absurd (not-suc-le-zero h)
     end_here (x ∷ l) zero d h a q =
-        ap (λ (b : Bool). if b && all p l then map f (x ∷ l) else (x ∷ map_end p f l)) q ∙ ap (λ (r : List A). x ∷ r) (end_all l a)
+        ap (λ (b : Bool). when b && all p l then map f (x ∷ l) else (x ∷ map_end p f l)) q ∙ ap (λ (r : List A). x ∷ r) (end_all l a)
     end_here (x ∷ l) (suc j) d h a q =
-        ap (λ (b : Bool). if b then map f (x ∷ l) else (x ∷ map_end p f l)) (not_all (x ∷ l) (suc j) d h q) ∙ ap (λ (r : List A). x ∷ r) (end_here l j d (le_of_suc-le-suc h) a q)
+        ap (λ (b : Bool). when b then map f (x ∷ l) else (x ∷ map_end p f l)) (not_all (x ∷ l) (suc j) d h q) ∙ ap (λ (r : List A). x ∷ r) (end_here l j d (le_of_suc-le-suc h) a q)
 
   -- ---- a turn of the loop, from i to i - 1, and its two ways out: `l` is the list before the loop, `m` the list now, `x` what was read
   abbrev pub Done : (A → Bool) → (A → A) → List A → ℕ → List A → Type 0

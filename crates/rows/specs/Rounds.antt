@@ -9,20 +9,20 @@ use Rattle.std.proofs.Math.Nat.{sub-zero, zero-sub, suc-sub-suc, add-sub_cancel_
 use mathlib.Core.List.{List, [], ◌∷◌, ◌++◌}
 use Rattle.std.proofs.Math.ListN.{set, get_or-eq_default}
 use Rattle.std.proofs.Math.Seq.{set_out, take-nil}
-use Rattle.model.specs.Lists.{if◌then◌else◌, adjust}
+use Rattle.model.specs.Lists.{when◌then◌else◌, adjust}
 use Rattle.rows.specs.Adjusts.{adjust_set}
 use Rattle.rows.specs.Parts.{part}
 use Rattle.rows.specs.View.{place_low, place_high, turned, view, lt_or_ge, length_turned, length_view, view_get, view_set, view_push, view_drop}
 
 -- the cell of the i-th; past the end the number of cells, where there is none
 abbrev pub cell_of : (cap start len i : ℕ) → ℕ
-cell_of cap start len i = if ltb i (min len cap) then (start % cap + i) % cap else cap
+cell_of cap start len i = when ltb i (min len cap) then (start % cap + i) % cap else cap
 
 cell_in : (cap start len i : ℕ) → i < min len cap → cell_of cap start len i ≡ (start % cap + i) % cap
-cell_in cap start len i h = ap (λ (b : Bool). if b then (start % cap + i) % cap else cap) (lt-ltb i (min len cap) h)
+cell_in cap start len i h = ap (λ (b : Bool). when b then (start % cap + i) % cap else cap) (lt-ltb i (min len cap) h)
 
 cell_out : (cap start len i : ℕ) → min len cap ≤ i → cell_of cap start len i ≡ cap
-cell_out cap start len i h = ap (λ (b : Bool). if b then (start % cap + i) % cap else cap) (le-ltb i (min len cap) h)
+cell_out cap start len i h = ap (λ (b : Bool). when b then (start % cap + i) % cap else cap) (le-ltb i (min len cap) h)
 
 -- as code computes it, with no division: past the end, before the seam, past the seam
 pub cell_past : (cap start len i : ℕ) → min len cap ≤ i → cap ≡ cell_of cap start len i

@@ -7,7 +7,7 @@ use lib.ListN.{length}
 use Rattle.limits.specs.Limits.{Room, tsns}
 use Rattle.model.specs.declared.Block.{Block}
 use Rattle.model.specs.declared.Chunk.{Chunk}
-use Rattle.model.specs.Lists.{if◌then◌else◌}
+use Rattle.model.specs.Lists.{when◌then◌else◌}
 use Rattle.model.specs.State.{Sender}
 use Rattle.model.specs.Calls.{Call, Acknowledge, Pop, step, run, answers, yielded, yields_of}
 use Rattle.model.specs.Sack.{cumulative_of, is_sack, blocks_in, all_within}
@@ -63,7 +63,7 @@ silent_blocks room t (b ∷ l) s =
     silent_join room (map Acknowledge ts) (block_calls t l) (silent_acknowledged room ts) (silent_blocks room t l) s
 
 -- by whether it is one, whether it is stale, and whether its blocks are good
-silent_singles : (room : Room) (ks : List Call) (is stale good : Bool) → Silent room ks → Silent room (if is then (if stale then [] else if good then ks else []) else [])
+silent_singles : (room : Room) (ks : List Call) (is stale good : Bool) → Silent room ks → Silent room (when is then (when stale then [] else when good then ks else []) else [])
 silent_singles room ks true true good p s = refl
 silent_singles room ks true false true p s = p s
 silent_singles room ks true false false p s = refl

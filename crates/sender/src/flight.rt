@@ -13,19 +13,19 @@ use model::{Found, Listed, Sacked};
 use sender_head::Head;
 
 // The bytes that the entry held.
-#[derive(Drop)]
+#[derive(Clone, Copy)]
 pub struct Acked {
     pub sender: Sender,
     pub bytes: u32,
 }
 
-#[derive(Drop)]
+#[derive(Clone, Copy)]
 pub struct Popped {
     pub sender: Sender,
     pub front: Found,
 }
 
-#[derive(Drop)]
+#[derive(Clone, Copy)]
 pub struct Sacking {
     pub sender: Sender,
     pub answer: Sacked,

@@ -19,19 +19,19 @@ use model::{Done, Released};
 use sender_head::Head;
 
 // 64 streams, and 256 slots in each ring and in the flight.
-#[derive(Drop)]
+#[derive(Clone, Copy)]
 pub struct Sender {
     pub head: Head,
     pub cells: [u64; 6656],
 }
 
-#[derive(Drop)]
+#[derive(Clone, Copy)]
 pub struct Changed {
     pub sender: Sender,
     pub answer: Done,
 }
 
-#[derive(Drop)]
+#[derive(Clone, Copy)]
 pub struct Releasing {
     pub sender: Sender,
     pub answer: Released,

@@ -12,31 +12,31 @@ ghost use Rattle.sender.specs.Value.{Leans, GoesOrStays, LeansOrStays};
 use super::{Changed, Sender};
 use model::{Abandoned, Expired, Sent, TailExpired, Written};
 
-#[derive(Drop)]
+#[derive(Clone, Copy)]
 pub struct Writing {
     pub sender: Sender,
     pub answer: Written,
 }
 
-#[derive(Drop)]
+#[derive(Clone, Copy)]
 pub struct Sending {
     pub sender: Sender,
     pub answer: Sent,
 }
 
-#[derive(Drop)]
+#[derive(Clone, Copy)]
 pub struct Expiring {
     pub sender: Sender,
     pub answer: Expired,
 }
 
-#[derive(Drop)]
+#[derive(Clone, Copy)]
 pub struct TailExpiring {
     pub sender: Sender,
     pub answer: TailExpired,
 }
 
-#[derive(Drop)]
+#[derive(Clone, Copy)]
 pub struct Abandoning {
     pub sender: Sender,
     pub answer: Abandoned,

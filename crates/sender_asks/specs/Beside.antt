@@ -10,7 +10,7 @@ use Rattle.limits.specs.Moments.{earlier}
 use Rattle.model.specs.declared.Chunk.{Chunk}
 use Rattle.model.specs.declared.Earliest.{Earliest}
 use Rattle.model.specs.declared.Found.{Found}
-use Rattle.model.specs.Lists.{if◌then◌else◌}
+use Rattle.model.specs.Lists.{when◌then◌else◌}
 use Rattle.model.specs.State.{Sender, at, lane_of}
 use Rattle.model.specs.Rings.{head, tsns_of}
 use Rattle.model.specs.Flight.{found, earliest}
@@ -47,7 +47,7 @@ front_deadline Found.Nothing = Absent
 front_deadline (Found.One c) = c.message.deadline
 
 unfoldable pub entry_deadline : Chunk → Moment
-entry_deadline c = if c.abandoned then Absent else c.message.deadline
+entry_deadline c = when c.abandoned then Absent else c.message.deadline
 
 abbrev pub soonest : List Chunk → Moment
 soonest [] = Absent
@@ -59,7 +59,7 @@ next_deadline s = earlier (front_deadline (found (head s.pending))) (soonest s.f
 -- that of an entry, as code finds it out
 module _ (c : Chunk) where
   abbrev by : (abandoned : Bool) → Moment
-  by g = if g then Absent else c.message.deadline
+  by g = when g then Absent else c.message.deadline
 
   pub abandoned_none : c.abandoned ≡ true → Absent ≡ entry_deadline c
   unfolding entry_deadline

@@ -5,7 +5,7 @@ use Rattle.std.proofs.Math.Option.{Option, none, some}
 use Rattle.limits.specs.Refusals.{no_entry}
 use Rattle.model.specs.declared.Chunk.{Chunk}
 use Rattle.model.specs.declared.Found.{Found}
-use Rattle.model.specs.Lists.{if◌then◌else◌}
+use Rattle.model.specs.Lists.{when◌then◌else◌}
 use Rattle.model.specs.Flight.{found, outstanding}
 use Rattle.model.specs.Data.{Output, unwritten, data_laid, data_of_entry}
 
@@ -24,7 +24,7 @@ module _ (t : ℕ) (l out : List ℕ) (entry : Option Chunk) where
 
   module _ (c : Chunk) (e : Found.One c ≡ found entry) where
     abbrev by : Bool → Output
-    by b = if b then data_laid t c l out else unwritten no_entry out
+    by b = when b then data_laid t c l out else unwritten no_entry out
 
     of_entry : {b : Bool} → outstanding c ≡ b → by b ≡ data_of_entry entry t l out
     of_entry h = sym (ap by h) ∙ ap (λ (o : Option Chunk). data_of_entry o t l out) (ap entry_in e ∙ found_entry entry)

@@ -3,7 +3,7 @@ use Rattle.std.specs.Prelude.{◌≡◌, Bool, true, false, List, ℕ}
 use Rattle.std.proofs.Common.{sym, ap, ◌∙◌}
 use Rattle.limits.specs.Refusals.{done}
 use Rattle.model.specs.declared.Expired.{Expired}
-use Rattle.model.specs.Lists.{if◌then◌else◌}
+use Rattle.model.specs.Lists.{when◌then◌else◌}
 use Rattle.model.specs.State.{Sender, with_streams}
 use Rattle.model.specs.Streams.{find}
 use Rattle.model.specs.Rings.{drop_ssn}
@@ -31,7 +31,7 @@ module _ (s : Sender) {x : Expired} where
     behind_told = ap (λ (y : Expired). (told_expired y).number) e
 
     abbrev picks : Bool → Sender
-    picks b = with_streams (if b then s.streams else drop_ssn (find id s.streams) s.streams) s
+    picks b = with_streams (when b then s.streams else drop_ssn (find id s.streams) s.streams) s
 
     told : picks u ≡ with_streams (dropped x s.streams) s
     told = sym (ap (λ (y : Expired). with_streams (dropped y s.streams) s) e)

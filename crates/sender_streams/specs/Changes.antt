@@ -11,7 +11,7 @@ use Rattle.limits.specs.Refusals.{bad_bounds, not_open, already_open, streams_fu
 use Rattle.model.specs.declared.Stream.{Stream}
 use Rattle.model.specs.declared.Done.{Done}
 use Rattle.model.specs.declared.Released.{Released}
-use Rattle.model.specs.Lists.{if◌then◌else◌}
+use Rattle.model.specs.Lists.{when◌then◌else◌}
 use Rattle.model.specs.State.{Sender, Out, same, with_streams}
 use Rattle.model.specs.Streams.{find, put, delivering, thresholds, accounted, opened, open_new, open_stream, changed, set_reliability, set_low, set_high, releasing, release}
 use Rattle.model.specs.Rings.{ssn_before, drop_ssn}
@@ -98,7 +98,7 @@ module _ (id : ℕ) (s : Sender) (i : ℕ) (t : Stream) (e : At i t ≡ sought i
 module _ (room : Room) (id m : ℕ) (s : Sender) where
   -- by what code finds of the bounds
   abbrev picks : Bool → Out Done
-  picks b = if not b then same (Done.Refused bad_bounds) s else open_new (find id s.streams) room id m s
+  picks b = when not b then same (Done.Refused bad_bounds) s else open_new (find id s.streams) room id m s
 
   pub open_small : m < 1 → same (Done.Refused bad_bounds) s ≡ open_stream room id m s
   unfolding open_stream
@@ -127,7 +127,7 @@ module _ (room : Room) (id m : ℕ) (s : Sender) where
 
       -- by whether the table is full
       abbrev new : Bool → Out Done
-      new f = if f then same (Done.Refused streams_full) s else record { after = with_streams (ts ++ (opened id m ∷ [])) s; says = Done.Done }
+      new f = when f then same (Done.Refused streams_full) s else record { after = with_streams (ts ++ (opened id m ∷ [])) s; says = Done.Done }
 
       absent_now : {f : Bool} → leb room.streams (length ts) ≡ f → new f ≡ open_stream room id m s
       absent_now q = sym (ap new q) ∙ within (none_found id ts e)
@@ -135,7 +135,7 @@ module _ (room : Room) (id m : ℕ) (s : Sender) where
       pub open_full : d ≡ false → record { after = z; says = Done.Refused streams_full } ≡ open_stream room id m s
       open_full q =
           let f = sym r ∙ q in
-          ap (λ (o : Sender). record { after = o; says = Done.Refused streams_full }) (b ∙ ap (λ (a : Bool). with_streams (if a then ts ++ (x ∷ []) else ts) s) f)
+          ap (λ (o : Sender). record { after = o; says = Done.Refused streams_full }) (b ∙ ap (λ (a : Bool). with_streams (when a then ts ++ (x ∷ []) else ts) s) f)
           ∙ absent_now (le-leb room.streams (length ts) (ltb-false (length ts) room.streams f))
 
       pub open_done : d ≡ true → record { after = z; says = Done.Done } ≡ open_stream room id m s

@@ -8,7 +8,7 @@ use Rattle.limits.specs.Refusals.{beyond_limit, not_open, message_long, buffer_f
 use Rattle.model.specs.declared.Done.{Done}
 use Rattle.model.specs.declared.Stream.{Stream}
 use Rattle.model.specs.declared.Written.{Written}
-use Rattle.model.specs.Lists.{if◌then◌else◌}
+use Rattle.model.specs.Lists.{when◌then◌else◌}
 use Rattle.model.specs.State.{Sender, Out, same, at, lane_of, with_streams}
 use Rattle.model.specs.Streams.{put}
 use Rattle.model.specs.Messages.{pieces, is_unordered, message_of, written, accepted, writing, write}
@@ -33,8 +33,8 @@ module _ (room : Room) (id p o l : ℕ) (s : Sender) where
     -- the write, by its five tests
     abbrev picks : (long far over full spent : Bool) → Out Written
     picks a b c d f =
-        if a then same (Written.Refused message_long) s else if b then same (Written.Refused beyond_limit) s else if c then same (Written.Refused buffer_full) s else
-        if d then same (Written.Refused ring_full) s else if f then same (Written.Refused numbers_spent) s else
+        when a then same (Written.Refused message_long) s else when b then same (Written.Refused beyond_limit) s else when c then same (Written.Refused buffer_full) s else
+        when d then same (Written.Refused ring_full) s else when f then same (Written.Refused numbers_spent) s else
         record { after = accepted p o l t s; says = Written.Accepted (rises (t.buffered + l) t) }
 
     -- the message is too long
@@ -89,7 +89,7 @@ module _ (room : Room) (id p o l : ℕ) (s : Sender) where
           -- the push, by its three tests
           abbrev pushes : (far full spent : Bool) → Out Done
           pushes a b c =
-              if a then same (Done.Refused beyond_limit) s else if b then same (Done.Refused ring_full) s else if c then same (Done.Refused numbers_spent) s else
+              when a then same (Done.Refused beyond_limit) s else when b then same (Done.Refused ring_full) s else when c then same (Done.Refused numbers_spent) s else
               record { after = queued (message_of p j t) t.maximum o l s; says = Done.Done }
 
           -- the write, by what the push answered: a message that joined its ring counts for its stream

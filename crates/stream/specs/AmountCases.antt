@@ -4,7 +4,7 @@ use Rattle.std.proofs.Common.{sym, ap, ◌∙◌, not-suc-le-zero, le-leb}
 use Rattle.std.proofs.lemmas.Bool.{lt-leb}
 use Rattle.limits.specs.Limits.{number_max, ssns}
 use Rattle.model.specs.declared.Statistics.{Statistics}
-use Rattle.model.specs.Lists.{if◌then◌else◌}
+use Rattle.model.specs.Lists.{when◌then◌else◌}
 use Rattle.model.specs.Messages.{ssn_after, saturated, counted_by}
 
 -- ---- an ordered message takes an SSN
@@ -15,16 +15,16 @@ ssn_ordered u n r e q = q ∙ sym (ap (λ (b : Bool). ssn_after b n) e)
 -- ---- statistics
 
 pub saturated_in : (n : ℕ) → n ≤ number_max → n ≡ saturated n
-saturated_in n h = sym (ap (λ (b : Bool). if b then n else number_max) (le-leb n number_max h))
+saturated_in n h = sym (ap (λ (b : Bool). when b then n else number_max) (le-leb n number_max h))
 
 pub saturated_out : (n : ℕ) → number_max < n → number_max ≡ saturated n
-saturated_out n h = sym (ap (λ (b : Bool). if b then n else number_max) (lt-leb n number_max h))
+saturated_out n h = sym (ap (λ (b : Bool). when b then n else number_max) (lt-leb n number_max h))
 
 -- the tests of the payload type as flags
 abbrev counting : (bytes empty : Bool) → (length : ℕ) → Statistics → Statistics
 counting a b l x =
-    if a then record { messages = saturated (x.messages + 1); bytes = saturated (x.bytes + l) } else
-    if b then record { messages = saturated (x.messages + 1); bytes = x.bytes } else x
+    when a then record { messages = saturated (x.messages + 1); bytes = saturated (x.bytes + l) } else
+    when b then record { messages = saturated (x.messages + 1); bytes = x.bytes } else x
 
 counting_is : (p l : ℕ) (x : Statistics) → 0 < l → counting (eqb p 51 || eqb p 53) (eqb p 56 || eqb p 57) l x ≡ counted_by p l x
 counting_is p zero x h = absurd (not-suc-le-zero h)

@@ -7,7 +7,7 @@ use Rattle.std.proofs.lemmas.Bool.{lt-leb}
 use Rattle.limits.specs.Limits.{buffered_max}
 use Rattle.model.specs.declared.Statistics.{Statistics}
 use Rattle.model.specs.declared.Stream.{Stream}
-use Rattle.model.specs.Lists.{if◌then◌else◌}
+use Rattle.model.specs.Lists.{when◌then◌else◌}
 use Rattle.model.specs.Streams.{accounted, reduced}
 use Rattle.model.specs.Messages.{is_unordered, ssn_after, counted_by, written}
 use Rattle.rows.specs.View.{lt_or_ge}
@@ -30,7 +30,7 @@ falls n t = ltb t.low t.buffered && leb n t.low
 -- a write; one whose amount would pass the limit changes nothing
 abbrev pub accepting : (protocol length : ℕ) → Stream → Accepted
 accepting p l t =
-    if overflows l t then record { stream = t; high = false } else
+    when overflows l t then record { stream = t; high = false } else
     record { stream = written p l t; high = rises (t.buffered + l) t }
 
 -- a release
@@ -46,7 +46,7 @@ freeing z t =
 module _ (p l : ℕ) (t : Stream) where
   -- the answer by the test
   abbrev answer : Bool → Accepted
-  answer b = if b then record { stream = t; high = false } else record { stream = written p l t; high = rises (t.buffered + l) t }
+  answer b = when b then record { stream = t; high = false } else record { stream = written p l t; high = rises (t.buffered + l) t }
 
   -- for a caller who has tested the amount
   pub accepting_fits : overflows l t ≡ false → accepting p l t ≡ record { stream = written p l t; high = rises (t.buffered + l) t }

@@ -5,7 +5,7 @@ use Rattle.std.proofs.Common.{sym, ap, ◌∙◌, zero-add, add-zero, add-one, a
 use Rattle.std.proofs.Math.Option.{Option, none, some}
 use Rattle.std.proofs.Math.Seq.{take-set-lt, set_out}
 use Rattle.model.specs.declared.Stream.{Stream}
-use Rattle.model.specs.Lists.{if◌then◌else◌}
+use Rattle.model.specs.Lists.{when◌then◌else◌}
 use Rattle.model.specs.Streams.{find, put}
 use Rattle.rows.specs.Joins.{pushed, pushed_room, pushed_full}
 use Rattle.rows.specs.Turns.{read_turn, rest_none}
@@ -21,7 +21,7 @@ table_of n ws = take n (streams ws)
 -- how many streams stand before the first with the identifier; all of them, where none has it
 abbrev pub place_of : (identifier : ℕ) → List Stream → ℕ
 place_of id [] = 0
-place_of id (t ∷ l) = if eqb t.identifier id then 0 else suc (place_of id l)
+place_of id (t ∷ l) = when eqb t.identifier id then 0 else suc (place_of id l)
 
 -- the answer of a search
 abbrev placed : Option Stream → (place : ℕ) → Place
@@ -54,16 +54,16 @@ found_identifier id (x ∷ l) t e = case (eqb x.identifier id) refl (λ f. found
   where
     case : (b : Bool) → eqb x.identifier id ≡ b → (find id l ≡ some t → t.identifier ≡ id) → t.identifier ≡ id
     case true q f =
-        let z : some x ≡ some t = sym (ap (λ (b : Bool). if b then some x else find id l) q) ∙ e in
+        let z : some x ≡ some t = sym (ap (λ (b : Bool). when b then some x else find id l) q) ∙ e in
         let y : x ≡ t = cc in
         sym (ap (λ (s : Stream). s.identifier) y) ∙ eqb-true x.identifier id q
-    case false q f = f (sym (ap (λ (b : Bool). if b then some x else find id l) q) ∙ e)
+    case false q f = f (sym (ap (λ (b : Bool). when b then some x else find id l) q) ∙ e)
 
 put_place : (t : Stream) (l : List Stream) → set l (place_of t.identifier l) t ≡ put t l
 put_place t [] = refl
 put_place t (x ∷ l) = case (eqb x.identifier t.identifier) (put_place t l)
   where
-    case : (b : Bool) → set l (place_of t.identifier l) t ≡ put t l → set (x ∷ l) (if b then 0 else suc (place_of t.identifier l)) t ≡ (if b then (t ∷ l) else (x ∷ put t l))
+    case : (b : Bool) → set l (place_of t.identifier l) t ≡ put t l → set (x ∷ l) (when b then 0 else suc (place_of t.identifier l)) t ≡ (when b then (t ∷ l) else (x ∷ put t l))
     case true q = refl
     case false q = ap (λ (r : List Stream). x ∷ r) q
 
@@ -101,7 +101,7 @@ module _ (id n : ℕ) (ws : List ℕ) (i : ℕ) {t : Stream} (q : t ≡ get_or (
 
   -- the answer by the test of what was read
   abbrev turn : Bool → Place
-  turn b = placed (if b then some t else find id rest) (i + (if b then 0 else suc (place_of id rest)))
+  turn b = placed (when b then some t else find id rest) (i + (when b then 0 else suc (place_of id rest)))
 
   here : sought id (table_of n ws) ≡ turn (eqb t.identifier id)
   here = v ∙ ap (λ (r : List Stream). placed (find id r) (i + place_of id r)) (table_read n ws i q h)

@@ -1,15 +1,13 @@
 // What the walk writes to standard output: texts, and numbers with a label.
-use libc::STDOUT_FILENO;
-
-pub fn text(words: &[u8]) {
-    io::write_all(STDOUT_FILENO, words);
+pub fn text(rt: &impl Print, words: &[u8]) {
+    let _ = rt.write_all(words);
 }
 
-pub fn number(label: &[u8], n: u64) {
-    text(label);
-    io::print_decimal(STDOUT_FILENO, n);
+pub fn number(rt: &impl Print, label: &[u8], n: u64) {
+    text(rt, label);
+    let _ = rt.print(n);
 }
 
-pub fn line() {
-    text(b"\n");
+pub fn line(rt: &impl Print) {
+    text(rt, b"\n");
 }

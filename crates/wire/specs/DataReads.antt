@@ -3,13 +3,13 @@ use Rattle.std.specs.Prelude.{◌≡◌, Bool, true, false, List, ℕ, ◌≤◌
 use Rattle.std.proofs.Common.{sym, ap, le-leb, eq-eqb, ne_eqb}
 use Rattle.std.proofs.lemmas.Bool.{lt-leb}
 use Rattle.octets.specs.Numbers.{byte_at, short_at}
-use Rattle.model.specs.Lists.{if◌then◌else◌}
+use Rattle.model.specs.Lists.{when◌then◌else◌}
 use Rattle.model.specs.declared.Data.{Data}
 use Rattle.model.specs.Data.{is_data, fields_of, read_data}
 
 module _ (p : List ℕ) where
-  by : {b : Bool} → is_data p ≡ b → (if b then fields_of p else Data.Other) ≡ read_data p
-  by e = sym (ap (λ (b : Bool). if b then fields_of p else Data.Other) e)
+  by : {b : Bool} → is_data p ≡ b → (when b then fields_of p else Data.Other) ≡ read_data p
+  by e = sym (ap (λ (b : Bool). when b then fields_of p else Data.Other) e)
 
   pub too_few : length p < 16 → Data.Other ≡ read_data p
   too_few h = by {b = false} (rw (lt-leb 16 (length p) h))

@@ -10,7 +10,7 @@ use borrow.Author.Tests.{leb-true, leb-false, le-leb, lt-leb}
 use Rattle.words.specs.declared.Token.{Token}
 use Rattle.words.specs.declared.Appended.{Appended}
 use Rattle.words.specs.Figures.{all, behind, digit, letter, number_max, name_max}
-use Rattle.words.specs.Tokens.{token_of, number, name, dashed, begin_of, begun, grow_of, grown, held_as, appended_of, lettered_of}
+use Rattle.words.specs.Tokens.{token_of, number, name, dashed, begin_of, begun, grow_of, grown, held_as, appended_of}
 use Rattle.words.specs.Claims.{ReadsWords}
 
 -- what is no word stays none

@@ -1,8 +1,8 @@
 -- What a word is: a name, a number, a number below zero, a dash, or none of them.
-use Rattle.std.specs.Prelude.{ℕ, ◌+◌, ◌*◌, ◌-◌, Bool, cond, List, [], ◌∷◌, leb, eqb}
+use Rattle.std.specs.Prelude.{ℕ, ◌+◌, ◌*◌, ◌-◌, cond, List, [], ◌∷◌, leb, eqb}
 use Rattle.words.specs.declared.Token.{Token}
 use Rattle.words.specs.declared.Appended.{Appended}
-use Rattle.words.specs.Figures.{all, behind, digit, letter, value, code, number_max, name_max}
+use Rattle.words.specs.Figures.{all, digit, letter, value, code, number_max, name_max}
 
 -- digits alone, and no larger than a number may be
 abbrev pub number : (ℕ → Token) → List ℕ → Token

@@ -5,10 +5,10 @@ use borrow.Author.Rules.{rules}
 use Rattle.lines.proofs.numbers.Goals as goal
 
 pub loop-i-init : goal.loop-i-init
-loop-i-init c = (omega arith, omega arith, refl)
+loop-i-init g c = (omega arith, omega arith, refl)
 
 pub next_value-next-requires : goal.next_value-next-requires
-next_value-next-requires c = omega arith
+next_value-next-requires g c = omega arith
 
 pub loop-i-preserved : goal.loop-i-preserved
-loop-i-preserved c = (omega arith, omega arith, search rules)
+loop-i-preserved g c = (omega arith, omega arith, search rules)

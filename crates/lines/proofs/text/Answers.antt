@@ -5,7 +5,7 @@ use borrow.Author.Rules.{rules}
 use Rattle.lines.proofs.text.Goals as goal
 
 pub loop-i-init : goal.loop-i-init
-loop-i-init c = (omega arith, refl)
+loop-i-init g c = (omega arith, refl)
 
 pub loop-i-preserved : goal.loop-i-preserved
-loop-i-preserved c = (omega arith, search rules)
+loop-i-preserved g c = (omega arith, search rules)

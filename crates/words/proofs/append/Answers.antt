@@ -3,8 +3,6 @@ use borrow.Author.Tests.{le-leb, lt-leb}
 use native.Mathlib.Omega.{arith}
 use Prim.Native.Nat.{◌+◌, ◌*◌, ◌-◌}
 use Rattle.words.specs.Figures.{number_max}
-use Rattle.words.proofs.append.Reads as reads
-use Rattle.words.proofs.append.Lts as lts
 use Rattle.words.proofs.append.Goals as goal
 
 pub returns-then-byte-lt48 : goal.returns-then-byte-lt48

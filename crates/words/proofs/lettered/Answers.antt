@@ -3,8 +3,6 @@ use borrow.Author.Tests.{le-leb, lt-leb}
 use native.Mathlib.Omega.{arith}
 use Prim.Native.Nat.{◌+◌, ◌*◌, ◌-◌}
 use Rattle.words.specs.Figures.{name_max}
-use Rattle.words.proofs.lettered.Reads as reads
-use Rattle.words.proofs.lettered.Lts as lts
 use Rattle.words.proofs.lettered.Goals as goal
 
 pub returns-then-byte-lt97 : goal.returns-then-byte-lt97

@@ -20,6 +20,18 @@ returns-then-is_outstanding c =
     let r = read_turn e l.i blank_chunk c.nth-chunk.ensures (omega arith) in
     sym (ap earliest (tsns_hit outstanding l.tsn r (sym c.is_outstanding.ensures ∙ c.if-is_outstanding.true))) ∙ l.invariant.1
 
+pub loop-i-preserved : goal.loop-i-preserved
+loop-i-preserved c =
+    let a = c.args in
+    let l = c.loop-i in
+    let e = held a.q.ring a.cells.now in
+    let r = read_turn e l.i blank_chunk c.nth-chunk.ensures (omega arith) in (
+      omega arith,
+      ap (λ (t : ℕ). earliest (tsns_of outstanding t (drop (l.i + 1) e))) c.wrapping_add_u32-tsn.ensures.value
+          ∙ sym (ap earliest (tsns_miss outstanding l.tsn r (sym c.is_outstanding.ensures ∙ c.if-is_outstanding.false)))
+          ∙ l.invariant.1,
+    )
+
 pub returns : goal.returns
 returns c =
     let a = c.args in

@@ -1,6 +1,6 @@
 -- A loop that reads: what is counted and the count of what is left make the whole.
 use Rattle.std.proofs.Common.{Bool, ap, ◌∙◌, arith, rules}
-use Rattle.model.specs.Lists.{if◌then◌else◌}
+use Rattle.model.specs.Lists.{when◌then◌else◌}
 use Rattle.rows.specs.Turns.{read_turn, rest_none}
 use Rattle.rows.specs.Walks.{count}
 use Rattle.chunk_slot.specs.Chunks.{blank_chunk}
@@ -17,7 +17,7 @@ loop-i-preserved c =
     let l = c.loop-i in
     let e = held a.ring a.cells.now in
     let r = ap (count (overdue_entry a.clock a.pending)) (read_turn e l.i blank_chunk c.nth-chunk.ensures (omega arith)) in
-    let o = c.one-k.ensures.0 ∙ ap (λ (b : Bool). if b then 1 else 0) c.is_overdue.ensures in
+    let o = c.one-k.ensures.0 ∙ ap (λ (b : Bool). when b then 1 else 0) c.is_overdue.ensures in
     (omega arith, omega (arith, l.invariant.1, r, o), omega arith)
 
 pub returns : goal.returns

@@ -26,6 +26,19 @@ note-k-requires c =
     let r = read_turn e l.i blank_chunk c.nth-chunk.ensures (omega arith) in
     fill_room ts a.out.now p l.invariant.1 l.tsn l.k (drop l.i e) l.out c.is_overdue.ensures r l.invariant.2
 
+pub loop-i-preserved : goal.loop-i-preserved
+loop-i-preserved c =
+    let a = c.args in
+    let l = c.loop-i in
+    let p = overdue_entry a.clock a.pending in
+    let e = held a.ring a.cells.now in
+    let ts = overdue_tsns a.clock a.pending (record { oldest = a.oldest; entries = e }) in
+    let r = read_turn e l.i blank_chunk c.nth-chunk.ensures (omega arith) in
+    let b = c.is_overdue in
+    let n = c.note-k.ensures in
+    let f = fill_step ts a.out.now p l.invariant.1 b.result l.tsn l.k (drop l.i e) (drop (l.i + 1) e) b.ensures r l.invariant.2 in
+    (omega arith, l.invariant.1, fill_as (ap (λ (t : ℕ). tsns_of p t (drop (l.i + 1) e)) (sym c.wrapping_add_u32-tsn.ensures.value)) (fill_met n.0 n.1 f))
+
 pub shape_of-out : goal.shape_of-out
 shape_of-out c = let l = c.loop-i in fill_length l.invariant.1 l.invariant.2
 

@@ -10,3 +10,19 @@ use Rattle.pending_queue.proofs.removal.remove_message.Goals as goal
 
 pub overflow_add-removed : goal.overflow_add-removed
 overflow_add-removed c = omega (arith, c.remove_run-other.ensures.3, c.remove_run-one.ensures.3)
+
+pub returns : goal.returns
+returns c =
+    let a = c.args in
+    let p = pending_in a.queue a.unordered.now a.ordered.now in
+    let x = take_while (is_of a.number) p.ordered in
+    let y = take_while (is_of a.number) p.unordered in
+    let one = c.remove_run-one in
+    let other = c.remove_run-other in
+    let t = both c.still_selected-selected.ensures other.ensures.0 one.ensures.0 in
+    let d : one.result.bytes + other.result.bytes ≡ bytes (runs a.number p) = omega (arith, one.ensures.1, other.ensures.1, bytes_append x y) in (
+      t,
+      d,
+      c.later-last.ensures ∙ ap₂ later_of one.ensures.2 other.ensures.2 ∙ sym (last_append x y),
+      counted_less a.queue a.unordered.now a.ordered.now (one.result.bytes + other.result.bytes) (ap₂ (λ (z : Pending) (k : ℕ). bytes_in z + k) t d ∙ runs_bytes a.number p) (search rules) c.wrapping_sub_u64.ensures.value,
+    )

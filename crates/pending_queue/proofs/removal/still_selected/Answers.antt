@@ -3,7 +3,7 @@ use Rattle.std.proofs.Common.{sym, ◌∙◌}
 use Rattle.model.specs.Rings.{head}
 use Rattle.limits.specs.Flags.{is_set}
 use Rattle.pending_queue.specs.Queue.{under_way_of, pending_in}
-use Rattle.pending_queue.specs.Runs.{ended_none, ended_one, ended_other}
+use Rattle.pending_queue.specs.Runs.{ended_none}
 use Rattle.pending_queue.proofs.removal.still_selected.Goals as goal
 
 pub returns-in_default : goal.returns-in_default

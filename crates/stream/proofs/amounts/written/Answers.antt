@@ -4,7 +4,7 @@ use Prim.Native.Nat.{◌+◌}
 use native.Mathlib.Omega.{arith}
 use borrow.Author.Tests.{ltb-false}
 use Rattle.limits.specs.Limits.{buffered_max}
-use Rattle.stream.specs.Amounts.{accept_over, accept_fits}
+use Rattle.stream.specs.Amounts.{accept_over}
 use Rattle.stream.proofs.amounts.written.Goals as goal
 
 pub returns-then-would_overflow : goal.returns-then-would_overflow

@@ -1,9 +1,7 @@
 -- `timer::TimerTable::next_timeout` keeps the smallest deadline of the timers passed: with that of the others it is the smallest of all. Assumes nothing.
-use mathlib.Core.Path.{◌≡◌, refl, sym, ◌∙◌}
-use Prim.Native.Nat.{◌<◌}
+use mathlib.Core.Path.{refl, sym, ◌∙◌}
 use native.Mathlib.Omega.{arith}
-use lib.ListN.{get_or, length, drop_of_length-le}
-use Rattle.timer.specs.declared.Timer.TheVariants.{T1Init}
+use lib.ListN.{drop_of_length-le}
 use Rattle.timer.specs.Entries.{order}
 use Rattle.timer.proofs.Laws.{at_value, at_nothing, earlier_absent, one_more}
 use Rattle.timer.proofs.TimerTable.next_timeout.Goals as goal
@@ -26,6 +24,6 @@ loop-timer-smaller c = let seen = at_value c.loop-timer.i _ (sym c.at.ensures �
 pub loop-timer-preserved : goal.loop-timer-preserved
 loop-timer-preserved c =
     let head = c in
-    let seen = at_value c.loop-timer.i _ (sym c.at.ensures ∙ c.in-Value.is) in 
+    let seen = at_value c.loop-timer.i _ (sym c.at.ensures ∙ c.in-Value.is) in
     simp (c.earlier-next.ensures, c.get.ensures, sym seen.1)
     (one_more head.args.self head.loop-timer.i head.loop-timer.next seen.0 ∙ head.loop-timer.invariant)
