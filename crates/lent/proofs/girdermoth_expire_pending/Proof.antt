@@ -4,7 +4,7 @@ use mir.Syntax.{w64}
 use contract.Running.{tables, tables_of}
 use denote.Plain.{UInt}
 use denote.Triple.Spec.{triple_of}
-use denote.Triple.Table.{entered, cited}
+use denote.Triple.Table.{entered}
 use Rattle.limits.specs.Limits.{Room}
 use Rattle.sender_head.specs.Whole.{room_in}
 use Rattle.sender.specs.Sizes.{sizes}
@@ -18,21 +18,20 @@ use Rattle.flat.specs.contracts.Freed as N
 use Rattle.flat.specs.contracts.SaidFreed as S
 use Rattle.lent.specs.contracts.Sender as R
 use Rattle.flat_calls.specs.contracts.expire_pending as g
-use Rattle.flat_calls.proofs.expire_pending.Symbol as g-def
-use Rattle.flat_calls.proofs.expire_pending.Symbol.{name as #g}
+use Rattle.flat_calls.proofs.expire_pending.Symbol.{symbol as #g}
 use Rattle.flat_calls.proofs.expire_pending.Met as g-thm
 use Rattle.lent.specs.contracts.girdermoth_expire_pending.Key.{name as #f}
 use Rattle.lent.specs.contracts.girdermoth_expire_pending as f
 use Rattle.lent.proofs.girdermoth_expire_pending.Statement as stated
 use Rattle.lent.proofs.girdermoth_expire_pending.Code as code
 
-pub girdermoth-expire-pending-spec : {M : Type 1} → stated.statement M
-unfolding code.routine tables_of
-girdermoth-expire-pending-spec 𝓤 𝓛 𝓜 𝓡 =
-    entered 𝓤 𝓛.H (triple_of 𝓛 f.signature (f.spec 𝓛 𝓜.mem 𝓡.run))
-    (tables 𝓤 𝓛.H 𝓜 𝓡 code.env).C (tables 𝓤 𝓛.H 𝓜 𝓡 code.env).Λ #f code.function (code.unfolded 𝓤 𝓛.H 𝓜 𝓡)
+pub girdermoth_expire_pending_spec : {M : Type 1} → stated.statement M
+unfolding tables_of
+girdermoth_expire_pending_spec 𝓤 𝓛 𝓜 𝓡 wired =
+    entered 𝓤 𝓛.H (triple_of 𝓛 f.signature (f.spec 𝓛 𝓜.mem 𝓡.returns))
+    (tables 𝓤 𝓛.H 𝓜 𝓡 𝓡.env).C (tables 𝓤 𝓛.H 𝓜 𝓡 𝓡.env).Λ #f code.function (code.unfolded 𝓤 𝓛.H 𝓜 𝓡 wired)
     (on_head_1 𝓛 R.the_row D.the_row N.the_row S.the_row (head 𝓛) (freed 𝓛) (state 𝓛) (said_freed 𝓛) (UInt w64) (of_uint 𝓛 w64)
     (λ d ws x₁ ws' r. Flat.ExpirePending (room_in ws) x₁ d ws r.head ws' r.reply)
     (λ h x₁ h' y. ExpirePending x₁ h h' y)
-    (λ h x₁ ws r e e' j. subst (λ (room : Room). Flat.ExpirePending room x₁ h.head h.cells r.head ws r.reply) (sizes h.cells e) j) #g (tables_of 𝓤 𝓛.H 𝓜 (tables 𝓤 𝓛.H 𝓜 𝓡 code.env))
-    (cited 𝓤 𝓛.H (triple_of 𝓛 g.signature (g.spec 𝓛 𝓜.mem 𝓡.run)) 𝓜 𝓡 code.env #g g-def.routine code.calls-flat-calls::expire-pending (g-thm.met 𝓤 𝓛 𝓜 𝓡)))
+    (λ h x₁ ws r e e' j. subst (λ (room : Room). Flat.ExpirePending room x₁ h.head h.cells r.head ws r.reply) (sizes h.cells e) j) #g (tables_of 𝓤 𝓛.H 𝓜 (tables 𝓤 𝓛.H 𝓜 𝓡 𝓡.env))
+    (g-thm.met 𝓤 𝓛 𝓜 𝓡 (code.calls-flat_calls::expire_pending 𝓡.env wired)))

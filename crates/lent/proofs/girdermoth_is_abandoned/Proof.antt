@@ -3,31 +3,30 @@ use mir.Syntax.{w32}
 use contract.Running.{tables, tables_of}
 use denote.Plain.{UInt}
 use denote.Triple.Spec.{triple_of}
-use denote.Triple.Table.{entered, cited}
+use denote.Triple.Table.{entered}
 use Rattle.walkkit.proofs.Lent.{of_uint}
 use Rattle.walkkit.proofs.OnLook.{on_shared_1}
 use Rattle.flat_calls.specs.Says as Flat
 use Rattle.lent.specs.Says.{IsAbandoned}
-use Rattle.lent.proofs.Shapes.{head, reply, state, halves}
+use Rattle.lent.proofs.Shapes.{head, reply, state, opens}
 use Rattle.sender_head.specs.contracts.Head as D
 use Rattle.flat.specs.contracts.Reply as N
 use Rattle.lent.specs.contracts.Sender as R
 use Rattle.flat_calls.specs.contracts.is_abandoned as g
-use Rattle.flat_calls.proofs.is_abandoned.Symbol as g-def
-use Rattle.flat_calls.proofs.is_abandoned.Symbol.{name as #g}
+use Rattle.flat_calls.proofs.is_abandoned.Symbol.{symbol as #g}
 use Rattle.flat_calls.proofs.is_abandoned.Met as g-thm
 use Rattle.lent.specs.contracts.girdermoth_is_abandoned.Key.{name as #f}
 use Rattle.lent.specs.contracts.girdermoth_is_abandoned as f
 use Rattle.lent.proofs.girdermoth_is_abandoned.Statement as stated
 use Rattle.lent.proofs.girdermoth_is_abandoned.Code as code
 
-pub girdermoth-is-abandoned-spec : {M : Type 1} → stated.statement M
-unfolding code.routine tables_of
-girdermoth-is-abandoned-spec 𝓤 𝓛 𝓜 𝓡 =
-    entered 𝓤 𝓛.H (triple_of 𝓛 f.signature (f.spec 𝓛 𝓜.mem 𝓡.run))
-    (tables 𝓤 𝓛.H 𝓜 𝓡 code.env).C (tables 𝓤 𝓛.H 𝓜 𝓡 code.env).Λ #f code.function (code.unfolded 𝓤 𝓛.H 𝓜 𝓡)
-    (on_shared_1 𝓛 R.the_row D.the_row N.the_row (head 𝓛) (reply 𝓛) (state 𝓛) (halves 𝓛) (UInt w32) (of_uint 𝓛 w32)
+pub girdermoth_is_abandoned_spec : {M : Type 1} → stated.statement M
+unfolding tables_of
+girdermoth_is_abandoned_spec 𝓤 𝓛 𝓜 𝓡 wired =
+    entered 𝓤 𝓛.H (triple_of 𝓛 f.signature (f.spec 𝓛 𝓜.mem 𝓡.returns))
+    (tables 𝓤 𝓛.H 𝓜 𝓡 𝓡.env).C (tables 𝓤 𝓛.H 𝓜 𝓡 𝓡.env).Λ #f code.function (code.unfolded 𝓤 𝓛.H 𝓜 𝓡 wired)
+    (on_shared_1 𝓛 R.the_row D.the_row N.the_row (head 𝓛) (reply 𝓛) (state 𝓛) (opens 𝓛) (UInt w32) (of_uint 𝓛 w32)
     (λ d ws x₁ y. Flat.IsAbandoned x₁ d ws y)
     (λ h x₁ y. IsAbandoned x₁ h y)
-    (λ h x₁ r e j. j) #g (tables_of 𝓤 𝓛.H 𝓜 (tables 𝓤 𝓛.H 𝓜 𝓡 code.env))
-    (cited 𝓤 𝓛.H (triple_of 𝓛 g.signature (g.spec 𝓛 𝓜.mem 𝓡.run)) 𝓜 𝓡 code.env #g g-def.routine code.calls-flat-calls::is-abandoned (g-thm.met 𝓤 𝓛 𝓜 𝓡)))
+    (λ h x₁ r e j. j) #g (tables_of 𝓤 𝓛.H 𝓜 (tables 𝓤 𝓛.H 𝓜 𝓡 𝓡.env))
+    (g-thm.met 𝓤 𝓛 𝓜 𝓡 (code.calls-flat_calls::is_abandoned 𝓡.env wired)))

@@ -1,30 +1,29 @@
 -- `lent::girdermoth_next_deadline` meets its contract, by `flat_calls::next_deadline`'s and walkkit's `on_shared_0`.
 use contract.Running.{tables, tables_of}
 use denote.Triple.Spec.{triple_of}
-use denote.Triple.Table.{entered, cited}
+use denote.Triple.Table.{entered}
 use Rattle.walkkit.proofs.OnLook.{on_shared_0}
 use Rattle.flat_calls.specs.Says as Flat
 use Rattle.lent.specs.Says.{NextDeadline}
-use Rattle.lent.proofs.Shapes.{head, reply, state, halves}
+use Rattle.lent.proofs.Shapes.{head, reply, state, opens}
 use Rattle.sender_head.specs.contracts.Head as D
 use Rattle.flat.specs.contracts.Reply as N
 use Rattle.lent.specs.contracts.Sender as R
 use Rattle.flat_calls.specs.contracts.next_deadline as g
-use Rattle.flat_calls.proofs.next_deadline.Symbol as g-def
-use Rattle.flat_calls.proofs.next_deadline.Symbol.{name as #g}
+use Rattle.flat_calls.proofs.next_deadline.Symbol.{symbol as #g}
 use Rattle.flat_calls.proofs.next_deadline.Met as g-thm
 use Rattle.lent.specs.contracts.girdermoth_next_deadline.Key.{name as #f}
 use Rattle.lent.specs.contracts.girdermoth_next_deadline as f
 use Rattle.lent.proofs.girdermoth_next_deadline.Statement as stated
 use Rattle.lent.proofs.girdermoth_next_deadline.Code as code
 
-pub girdermoth-next-deadline-spec : {M : Type 1} → stated.statement M
-unfolding code.routine tables_of
-girdermoth-next-deadline-spec 𝓤 𝓛 𝓜 𝓡 =
-    entered 𝓤 𝓛.H (triple_of 𝓛 f.signature (f.spec 𝓛 𝓜.mem 𝓡.run))
-    (tables 𝓤 𝓛.H 𝓜 𝓡 code.env).C (tables 𝓤 𝓛.H 𝓜 𝓡 code.env).Λ #f code.function (code.unfolded 𝓤 𝓛.H 𝓜 𝓡)
-    (on_shared_0 𝓛 R.the_row D.the_row N.the_row (head 𝓛) (reply 𝓛) (state 𝓛) (halves 𝓛)
+pub girdermoth_next_deadline_spec : {M : Type 1} → stated.statement M
+unfolding tables_of
+girdermoth_next_deadline_spec 𝓤 𝓛 𝓜 𝓡 wired =
+    entered 𝓤 𝓛.H (triple_of 𝓛 f.signature (f.spec 𝓛 𝓜.mem 𝓡.returns))
+    (tables 𝓤 𝓛.H 𝓜 𝓡 𝓡.env).C (tables 𝓤 𝓛.H 𝓜 𝓡 𝓡.env).Λ #f code.function (code.unfolded 𝓤 𝓛.H 𝓜 𝓡 wired)
+    (on_shared_0 𝓛 R.the_row D.the_row N.the_row (head 𝓛) (reply 𝓛) (state 𝓛) (opens 𝓛)
     (λ d ws y. Flat.NextDeadline d ws y)
     (λ h y. NextDeadline h y)
-    (λ h r e j. j) #g (tables_of 𝓤 𝓛.H 𝓜 (tables 𝓤 𝓛.H 𝓜 𝓡 code.env))
-    (cited 𝓤 𝓛.H (triple_of 𝓛 g.signature (g.spec 𝓛 𝓜.mem 𝓡.run)) 𝓜 𝓡 code.env #g g-def.routine code.calls-flat-calls::next-deadline (g-thm.met 𝓤 𝓛 𝓜 𝓡)))
+    (λ h r e j. j) #g (tables_of 𝓤 𝓛.H 𝓜 (tables 𝓤 𝓛.H 𝓜 𝓡 𝓡.env))
+    (g-thm.met 𝓤 𝓛 𝓜 𝓡 (code.calls-flat_calls::next_deadline 𝓡.env wired)))

@@ -4,7 +4,7 @@ use mir.Syntax.{w16, w32}
 use contract.Running.{tables, tables_of}
 use denote.Plain.{UInt}
 use denote.Triple.Spec.{triple_of}
-use denote.Triple.Table.{entered, cited}
+use denote.Triple.Table.{entered}
 use Rattle.limits.specs.Limits.{Room}
 use Rattle.sender_head.specs.Whole.{room_in}
 use Rattle.sender.specs.Sizes.{sizes}
@@ -18,21 +18,20 @@ use Rattle.flat.specs.contracts.Reply as N
 use Rattle.flat.specs.contracts.Said as S
 use Rattle.lent.specs.contracts.Sender as R
 use Rattle.flat_calls.specs.contracts.open_stream as g
-use Rattle.flat_calls.proofs.open_stream.Symbol as g-def
-use Rattle.flat_calls.proofs.open_stream.Symbol.{name as #g}
+use Rattle.flat_calls.proofs.open_stream.Symbol.{symbol as #g}
 use Rattle.flat_calls.proofs.open_stream.Met as g-thm
 use Rattle.lent.specs.contracts.girdermoth_open_stream.Key.{name as #f}
 use Rattle.lent.specs.contracts.girdermoth_open_stream as f
 use Rattle.lent.proofs.girdermoth_open_stream.Statement as stated
 use Rattle.lent.proofs.girdermoth_open_stream.Code as code
 
-pub girdermoth-open-stream-spec : {M : Type 1} → stated.statement M
-unfolding code.routine tables_of
-girdermoth-open-stream-spec 𝓤 𝓛 𝓜 𝓡 =
-    entered 𝓤 𝓛.H (triple_of 𝓛 f.signature (f.spec 𝓛 𝓜.mem 𝓡.run))
-    (tables 𝓤 𝓛.H 𝓜 𝓡 code.env).C (tables 𝓤 𝓛.H 𝓜 𝓡 code.env).Λ #f code.function (code.unfolded 𝓤 𝓛.H 𝓜 𝓡)
+pub girdermoth_open_stream_spec : {M : Type 1} → stated.statement M
+unfolding tables_of
+girdermoth_open_stream_spec 𝓤 𝓛 𝓜 𝓡 wired =
+    entered 𝓤 𝓛.H (triple_of 𝓛 f.signature (f.spec 𝓛 𝓜.mem 𝓡.returns))
+    (tables 𝓤 𝓛.H 𝓜 𝓡 𝓡.env).C (tables 𝓤 𝓛.H 𝓜 𝓡 𝓡.env).Λ #f code.function (code.unfolded 𝓤 𝓛.H 𝓜 𝓡 wired)
     (on_head_2 𝓛 R.the_row D.the_row N.the_row S.the_row (head 𝓛) (reply 𝓛) (state 𝓛) (said 𝓛) (UInt w16) (of_uint 𝓛 w16) (UInt w32) (of_uint 𝓛 w32)
     (λ d ws x₁ x₂ ws' r. Flat.OpenStream (room_in ws) x₁ x₂ d ws r.head ws' r.reply)
     (λ h x₁ x₂ h' y. OpenStream x₁ x₂ h h' y)
-    (λ h x₁ x₂ ws r e e' j. subst (λ (room : Room). Flat.OpenStream room x₁ x₂ h.head h.cells r.head ws r.reply) (sizes h.cells e) j) #g (tables_of 𝓤 𝓛.H 𝓜 (tables 𝓤 𝓛.H 𝓜 𝓡 code.env))
-    (cited 𝓤 𝓛.H (triple_of 𝓛 g.signature (g.spec 𝓛 𝓜.mem 𝓡.run)) 𝓜 𝓡 code.env #g g-def.routine code.calls-flat-calls::open-stream (g-thm.met 𝓤 𝓛 𝓜 𝓡)))
+    (λ h x₁ x₂ ws r e e' j. subst (λ (room : Room). Flat.OpenStream room x₁ x₂ h.head h.cells r.head ws r.reply) (sizes h.cells e) j) #g (tables_of 𝓤 𝓛.H 𝓜 (tables 𝓤 𝓛.H 𝓜 𝓡 𝓡.env))
+    (g-thm.met 𝓤 𝓛 𝓜 𝓡 (code.calls-flat_calls::open_stream 𝓡.env wired)))

@@ -3,7 +3,7 @@ use mir.Syntax.{w32}
 use contract.Running.{tables, tables_of}
 use denote.Plain.{UInt}
 use denote.Triple.Spec.{triple_of}
-use denote.Triple.Table.{entered, cited}
+use denote.Triple.Table.{entered}
 use Rattle.walkkit.proofs.Lent.{of_uint}
 use Rattle.walkkit.proofs.OnHead.{on_head_1}
 use Rattle.flat_calls.specs.Says as Flat
@@ -14,21 +14,20 @@ use Rattle.flat.specs.contracts.Fragment as N
 use Rattle.flat.specs.contracts.SaidFragment as S
 use Rattle.lent.specs.contracts.Sender as R
 use Rattle.flat_calls.specs.contracts.pop as g
-use Rattle.flat_calls.proofs.pop.Symbol as g-def
-use Rattle.flat_calls.proofs.pop.Symbol.{name as #g}
+use Rattle.flat_calls.proofs.pop.Symbol.{symbol as #g}
 use Rattle.flat_calls.proofs.pop.Met as g-thm
 use Rattle.lent.specs.contracts.girdermoth_pop.Key.{name as #f}
 use Rattle.lent.specs.contracts.girdermoth_pop as f
 use Rattle.lent.proofs.girdermoth_pop.Statement as stated
 use Rattle.lent.proofs.girdermoth_pop.Code as code
 
-pub girdermoth-pop-spec : {M : Type 1} → stated.statement M
-unfolding code.routine tables_of
-girdermoth-pop-spec 𝓤 𝓛 𝓜 𝓡 =
-    entered 𝓤 𝓛.H (triple_of 𝓛 f.signature (f.spec 𝓛 𝓜.mem 𝓡.run))
-    (tables 𝓤 𝓛.H 𝓜 𝓡 code.env).C (tables 𝓤 𝓛.H 𝓜 𝓡 code.env).Λ #f code.function (code.unfolded 𝓤 𝓛.H 𝓜 𝓡)
+pub girdermoth_pop_spec : {M : Type 1} → stated.statement M
+unfolding tables_of
+girdermoth_pop_spec 𝓤 𝓛 𝓜 𝓡 wired =
+    entered 𝓤 𝓛.H (triple_of 𝓛 f.signature (f.spec 𝓛 𝓜.mem 𝓡.returns))
+    (tables 𝓤 𝓛.H 𝓜 𝓡 𝓡.env).C (tables 𝓤 𝓛.H 𝓜 𝓡 𝓡.env).Λ #f code.function (code.unfolded 𝓤 𝓛.H 𝓜 𝓡 wired)
     (on_head_1 𝓛 R.the_row D.the_row N.the_row S.the_row (head 𝓛) (fragment 𝓛) (state 𝓛) (said_fragment 𝓛) (UInt w32) (of_uint 𝓛 w32)
     (λ d ws x₁ ws' r. Flat.Pop x₁ d ws r.head ws' r.reply)
     (λ h x₁ h' y. Pop x₁ h h' y)
-    (λ h x₁ ws r e e' j. j) #g (tables_of 𝓤 𝓛.H 𝓜 (tables 𝓤 𝓛.H 𝓜 𝓡 code.env))
-    (cited 𝓤 𝓛.H (triple_of 𝓛 g.signature (g.spec 𝓛 𝓜.mem 𝓡.run)) 𝓜 𝓡 code.env #g g-def.routine code.calls-flat-calls::pop (g-thm.met 𝓤 𝓛 𝓜 𝓡)))
+    (λ h x₁ ws r e e' j. j) #g (tables_of 𝓤 𝓛.H 𝓜 (tables 𝓤 𝓛.H 𝓜 𝓡 𝓡.env))
+    (g-thm.met 𝓤 𝓛 𝓜 𝓡 (code.calls-flat_calls::pop 𝓡.env wired)))

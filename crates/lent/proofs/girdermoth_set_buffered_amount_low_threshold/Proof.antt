@@ -3,7 +3,7 @@ use mir.Syntax.{w16, w64}
 use contract.Running.{tables, tables_of}
 use denote.Plain.{UInt}
 use denote.Triple.Spec.{triple_of}
-use denote.Triple.Table.{entered, cited}
+use denote.Triple.Table.{entered}
 use Rattle.walkkit.proofs.Lent.{of_uint}
 use Rattle.walkkit.proofs.OnHead.{on_head_2}
 use Rattle.flat_calls.specs.Says as Flat
@@ -14,21 +14,20 @@ use Rattle.flat.specs.contracts.Reply as N
 use Rattle.flat.specs.contracts.Said as S
 use Rattle.lent.specs.contracts.Sender as R
 use Rattle.flat_calls.specs.contracts.set_buffered_amount_low_threshold as g
-use Rattle.flat_calls.proofs.set_buffered_amount_low_threshold.Symbol as g-def
-use Rattle.flat_calls.proofs.set_buffered_amount_low_threshold.Symbol.{name as #g}
+use Rattle.flat_calls.proofs.set_buffered_amount_low_threshold.Symbol.{symbol as #g}
 use Rattle.flat_calls.proofs.set_buffered_amount_low_threshold.Met as g-thm
 use Rattle.lent.specs.contracts.girdermoth_set_buffered_amount_low_threshold.Key.{name as #f}
 use Rattle.lent.specs.contracts.girdermoth_set_buffered_amount_low_threshold as f
 use Rattle.lent.proofs.girdermoth_set_buffered_amount_low_threshold.Statement as stated
 use Rattle.lent.proofs.girdermoth_set_buffered_amount_low_threshold.Code as code
 
-pub girdermoth-set-buffered-amount-low-threshold-spec : {M : Type 1} → stated.statement M
-unfolding code.routine tables_of
-girdermoth-set-buffered-amount-low-threshold-spec 𝓤 𝓛 𝓜 𝓡 =
-    entered 𝓤 𝓛.H (triple_of 𝓛 f.signature (f.spec 𝓛 𝓜.mem 𝓡.run))
-    (tables 𝓤 𝓛.H 𝓜 𝓡 code.env).C (tables 𝓤 𝓛.H 𝓜 𝓡 code.env).Λ #f code.function (code.unfolded 𝓤 𝓛.H 𝓜 𝓡)
+pub girdermoth_set_buffered_amount_low_threshold_spec : {M : Type 1} → stated.statement M
+unfolding tables_of
+girdermoth_set_buffered_amount_low_threshold_spec 𝓤 𝓛 𝓜 𝓡 wired =
+    entered 𝓤 𝓛.H (triple_of 𝓛 f.signature (f.spec 𝓛 𝓜.mem 𝓡.returns))
+    (tables 𝓤 𝓛.H 𝓜 𝓡 𝓡.env).C (tables 𝓤 𝓛.H 𝓜 𝓡 𝓡.env).Λ #f code.function (code.unfolded 𝓤 𝓛.H 𝓜 𝓡 wired)
     (on_head_2 𝓛 R.the_row D.the_row N.the_row S.the_row (head 𝓛) (reply 𝓛) (state 𝓛) (said 𝓛) (UInt w16) (of_uint 𝓛 w16) (UInt w64) (of_uint 𝓛 w64)
     (λ d ws x₁ x₂ ws' r. Flat.SetBufferedAmountLowThreshold x₁ x₂ d ws r.head ws' r.reply)
     (λ h x₁ x₂ h' y. SetBufferedAmountLowThreshold x₁ x₂ h h' y)
-    (λ h x₁ x₂ ws r e e' j. j) #g (tables_of 𝓤 𝓛.H 𝓜 (tables 𝓤 𝓛.H 𝓜 𝓡 code.env))
-    (cited 𝓤 𝓛.H (triple_of 𝓛 g.signature (g.spec 𝓛 𝓜.mem 𝓡.run)) 𝓜 𝓡 code.env #g g-def.routine code.calls-flat-calls::set-buffered-amount-low-threshold (g-thm.met 𝓤 𝓛 𝓜 𝓡)))
+    (λ h x₁ x₂ ws r e e' j. j) #g (tables_of 𝓤 𝓛.H 𝓜 (tables 𝓤 𝓛.H 𝓜 𝓡 𝓡.env))
+    (g-thm.met 𝓤 𝓛 𝓜 𝓡 (code.calls-flat_calls::set_buffered_amount_low_threshold 𝓡.env wired)))

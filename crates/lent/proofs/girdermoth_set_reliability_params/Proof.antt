@@ -3,7 +3,7 @@ use mir.Syntax.{w8, w16, w32}
 use contract.Running.{tables, tables_of}
 use denote.Plain.{Boolean, UInt}
 use denote.Triple.Spec.{triple_of}
-use denote.Triple.Table.{entered, cited}
+use denote.Triple.Table.{entered}
 use Rattle.walkkit.proofs.Lent.{of_bool, of_uint}
 use Rattle.walkkit.proofs.OnHead.{on_head_4}
 use Rattle.flat_calls.specs.Says as Flat
@@ -14,21 +14,20 @@ use Rattle.flat.specs.contracts.Reply as N
 use Rattle.flat.specs.contracts.Said as S
 use Rattle.lent.specs.contracts.Sender as R
 use Rattle.flat_calls.specs.contracts.set_reliability_params as g
-use Rattle.flat_calls.proofs.set_reliability_params.Symbol as g-def
-use Rattle.flat_calls.proofs.set_reliability_params.Symbol.{name as #g}
+use Rattle.flat_calls.proofs.set_reliability_params.Symbol.{symbol as #g}
 use Rattle.flat_calls.proofs.set_reliability_params.Met as g-thm
 use Rattle.lent.specs.contracts.girdermoth_set_reliability_params.Key.{name as #f}
 use Rattle.lent.specs.contracts.girdermoth_set_reliability_params as f
 use Rattle.lent.proofs.girdermoth_set_reliability_params.Statement as stated
 use Rattle.lent.proofs.girdermoth_set_reliability_params.Code as code
 
-pub girdermoth-set-reliability-params-spec : {M : Type 1} → stated.statement M
-unfolding code.routine tables_of
-girdermoth-set-reliability-params-spec 𝓤 𝓛 𝓜 𝓡 =
-    entered 𝓤 𝓛.H (triple_of 𝓛 f.signature (f.spec 𝓛 𝓜.mem 𝓡.run))
-    (tables 𝓤 𝓛.H 𝓜 𝓡 code.env).C (tables 𝓤 𝓛.H 𝓜 𝓡 code.env).Λ #f code.function (code.unfolded 𝓤 𝓛.H 𝓜 𝓡)
+pub girdermoth_set_reliability_params_spec : {M : Type 1} → stated.statement M
+unfolding tables_of
+girdermoth_set_reliability_params_spec 𝓤 𝓛 𝓜 𝓡 wired =
+    entered 𝓤 𝓛.H (triple_of 𝓛 f.signature (f.spec 𝓛 𝓜.mem 𝓡.returns))
+    (tables 𝓤 𝓛.H 𝓜 𝓡 𝓡.env).C (tables 𝓤 𝓛.H 𝓜 𝓡 𝓡.env).Λ #f code.function (code.unfolded 𝓤 𝓛.H 𝓜 𝓡 wired)
     (on_head_4 𝓛 R.the_row D.the_row N.the_row S.the_row (head 𝓛) (reply 𝓛) (state 𝓛) (said 𝓛) (UInt w16) (of_uint 𝓛 w16) Boolean (of_bool 𝓛) (UInt w8) (of_uint 𝓛 w8) (UInt w32) (of_uint 𝓛 w32)
     (λ d ws x₁ x₂ x₃ x₄ ws' r. Flat.SetReliabilityParams x₁ x₂ x₃ x₄ d ws r.head ws' r.reply)
     (λ h x₁ x₂ x₃ x₄ h' y. SetReliabilityParams x₁ x₂ x₃ x₄ h h' y)
-    (λ h x₁ x₂ x₃ x₄ ws r e e' j. j) #g (tables_of 𝓤 𝓛.H 𝓜 (tables 𝓤 𝓛.H 𝓜 𝓡 code.env))
-    (cited 𝓤 𝓛.H (triple_of 𝓛 g.signature (g.spec 𝓛 𝓜.mem 𝓡.run)) 𝓜 𝓡 code.env #g g-def.routine code.calls-flat-calls::set-reliability-params (g-thm.met 𝓤 𝓛 𝓜 𝓡)))
+    (λ h x₁ x₂ x₃ x₄ ws r e e' j. j) #g (tables_of 𝓤 𝓛.H 𝓜 (tables 𝓤 𝓛.H 𝓜 𝓡 𝓡.env))
+    (g-thm.met 𝓤 𝓛 𝓜 𝓡 (code.calls-flat_calls::set_reliability_params 𝓡.env wired)))

@@ -3,31 +3,30 @@ use mir.Syntax.{w16}
 use contract.Running.{tables, tables_of}
 use denote.Plain.{UInt}
 use denote.Triple.Spec.{triple_of}
-use denote.Triple.Table.{entered, cited}
+use denote.Triple.Table.{entered}
 use Rattle.walkkit.proofs.Lent.{of_uint}
 use Rattle.walkkit.proofs.OnLook.{on_shared_1}
 use Rattle.flat_calls.specs.Says as Flat
 use Rattle.lent.specs.Says.{Stats}
-use Rattle.lent.proofs.Shapes.{head, counts, state, halves}
+use Rattle.lent.proofs.Shapes.{head, counts, state, opens}
 use Rattle.sender_head.specs.contracts.Head as D
 use Rattle.flat.specs.contracts.Counts as N
 use Rattle.lent.specs.contracts.Sender as R
 use Rattle.flat_calls.specs.contracts.stats as g
-use Rattle.flat_calls.proofs.stats.Symbol as g-def
-use Rattle.flat_calls.proofs.stats.Symbol.{name as #g}
+use Rattle.flat_calls.proofs.stats.Symbol.{symbol as #g}
 use Rattle.flat_calls.proofs.stats.Met as g-thm
 use Rattle.lent.specs.contracts.girdermoth_stats.Key.{name as #f}
 use Rattle.lent.specs.contracts.girdermoth_stats as f
 use Rattle.lent.proofs.girdermoth_stats.Statement as stated
 use Rattle.lent.proofs.girdermoth_stats.Code as code
 
-pub girdermoth-stats-spec : {M : Type 1} → stated.statement M
-unfolding code.routine tables_of
-girdermoth-stats-spec 𝓤 𝓛 𝓜 𝓡 =
-    entered 𝓤 𝓛.H (triple_of 𝓛 f.signature (f.spec 𝓛 𝓜.mem 𝓡.run))
-    (tables 𝓤 𝓛.H 𝓜 𝓡 code.env).C (tables 𝓤 𝓛.H 𝓜 𝓡 code.env).Λ #f code.function (code.unfolded 𝓤 𝓛.H 𝓜 𝓡)
-    (on_shared_1 𝓛 R.the_row D.the_row N.the_row (head 𝓛) (counts 𝓛) (state 𝓛) (halves 𝓛) (UInt w16) (of_uint 𝓛 w16)
+pub girdermoth_stats_spec : {M : Type 1} → stated.statement M
+unfolding tables_of
+girdermoth_stats_spec 𝓤 𝓛 𝓜 𝓡 wired =
+    entered 𝓤 𝓛.H (triple_of 𝓛 f.signature (f.spec 𝓛 𝓜.mem 𝓡.returns))
+    (tables 𝓤 𝓛.H 𝓜 𝓡 𝓡.env).C (tables 𝓤 𝓛.H 𝓜 𝓡 𝓡.env).Λ #f code.function (code.unfolded 𝓤 𝓛.H 𝓜 𝓡 wired)
+    (on_shared_1 𝓛 R.the_row D.the_row N.the_row (head 𝓛) (counts 𝓛) (state 𝓛) (opens 𝓛) (UInt w16) (of_uint 𝓛 w16)
     (λ d ws x₁ y. Flat.Stats x₁ d ws y)
     (λ h x₁ y. Stats x₁ h y)
-    (λ h x₁ r e j. j) #g (tables_of 𝓤 𝓛.H 𝓜 (tables 𝓤 𝓛.H 𝓜 𝓡 code.env))
-    (cited 𝓤 𝓛.H (triple_of 𝓛 g.signature (g.spec 𝓛 𝓜.mem 𝓡.run)) 𝓜 𝓡 code.env #g g-def.routine code.calls-flat-calls::stats (g-thm.met 𝓤 𝓛 𝓜 𝓡)))
+    (λ h x₁ r e j. j) #g (tables_of 𝓤 𝓛.H 𝓜 (tables 𝓤 𝓛.H 𝓜 𝓡 𝓡.env))
+    (g-thm.met 𝓤 𝓛 𝓜 𝓡 (code.calls-flat_calls::stats 𝓡.env wired)))
