@@ -13,8 +13,8 @@ use denote.Builtin.{u64}
 use denote.Array.{Array}
 use Rattle.walkkit.proofs.Lent.{Data, Two, of_struct}
 use Rattle.walkkit.proofs.Reach.{Reach, field_of, whole_record}
-use Rattle.walkkit.proofs.Field.{Lends, lend_field, lend_numbers}
-use Rattle.walkkit.proofs.View.{Views, view_field, view_record, view_numbers}
+use Rattle.walkkit.proofs.Field.{Lends, lend_field}
+use Rattle.walkkit.proofs.View.{Views, view_field, view_record}
 use Rattle.walkkit.proofs.OnHead.{State, count_big}
 use Rattle.walkkit.proofs.Shape.{halves_of, opens_of, of_two}
 use Rattle.sender_head.specs.declared.Head.{Head}
@@ -80,13 +80,13 @@ module _ {M : Type 1} {𝓤 : Ura M} (𝓛 : Logic 𝓤) where
   head_put h g b o = whole_record 𝓛 D.the_type (field_of 𝓛 R.the_type R'.the_laws 0 0 refl refl h (with_head h g) ((R.struct).as_values h) g refl refl b o)
 
   pub cells_lent : (h : Sender) (b o : ℕ) → Lends 𝓛 R.the_row (Array u64 count) (List ℕ) (λ y. y) h h.cells (with_cells h) b o (o + past)
-  cells_lent h b o = lend_numbers 𝓛 u64 count (lend_field 𝓛 R.the_type R'.the_laws 1 past refl refl b o h (with_cells h) ((R.struct).as_values h) refl (λ x'. refl))
+  cells_lent h b o = lend_field 𝓛 R.the_type R'.the_laws 1 past refl refl b o h (with_cells h) ((R.struct).as_values h) refl (λ x'. refl)
 
   pub head_seen : (h : Sender) (b o : ℕ) → Views 𝓛 R.the_row D.the_row h h.head b o (o + 0)
   head_seen h b o = view_record 𝓛 D.the_type (view_field 𝓛 R.the_type R'.the_laws 0 0 refl refl h ((R.struct).as_values h) refl refl b o)
 
   pub cells_seen : (h : Sender) (b o : ℕ) → Views 𝓛 R.the_row (Array u64 count) h h.cells b o (o + past)
-  cells_seen h b o = view_numbers 𝓛 u64 count h.cells (view_field 𝓛 R.the_type R'.the_laws 1 past refl refl h ((R.struct).as_values h) refl refl b o)
+  cells_seen h b o = view_field 𝓛 R.the_type R'.the_laws 1 past refl refl h ((R.struct).as_values h) refl refl b o
 
   pub halves : (h : Sender) (b o : ℕ) → Halves 𝓤 H A (λ q. part_at R.the_row q h b o)
   halves = halves_of 𝓛 R.the_type R'.the_laws R'.the_copy
