@@ -1,5 +1,6 @@
 #!/usr/bin/env python3
-# Writes crates/walkkit/proofs/OnLook.antt: questions over a state of a head and cells, through a `&` (or, where asked for, a `&mut`).
+# Writes crates/walkkit/proofs/OnLook.antt: questions over a state of a head and cells, through a `&` (or, where asked for, a `&mut`; OnLook.head
+# then wants the imports for it). The text before the rows is OnLook.head.
 #     python3 tools/mklook.py > crates/walkkit/proofs/OnLook.antt        then `rt fmt`
 import sys
 
@@ -139,29 +140,6 @@ def gen(name, kinds, how):
     w('        (λ κs qs bounds a _ are. walk%s κs.0 qs.0 a.0.ref_ptr.0 a.0.ref_ptr.1%s a.0.now%s 𝓣 known))\n' % (name, ' a.0.ghost_name' if mut else '', ''.join(' ' + p.pass_(acc(p.i)) for p in ps)))
     return '\n'.join(o)
 
-HEAD = '''-- Questions over a state of a head and cells (`OnHead.antt`'s `State`), which lend the cells for reading:
---     fn f(s: &R, x₁: X₁, …) -> N { g(s.head, &s.cells, x₁, …) }
--- over a covered g(head: D, cells: &[u64], x₁: X₁, …) -> N. Neither has a `requires`, and the state stays by its type.
---     on_shared_k      for k further parameters of plain data, k 0 or 1
---     on_shared_sm1    with a `bytes: &[uN]`, an `out: &mut [uM]` and one number after the sender: J and Q have both lists at the start, and that of `out` at the end
--- Any other row of parameters is a line at the end of tools/mklook.py.
--- It says nothing of the crate. Assumes `Logic`. Written by tools/mklook.py (and `rt fmt`).
-'''
 if __name__ == '__main__':
-    head = open(sys.path[0] + '/OnHead.head').read()
-    uses = [l for l in head.split('\n') if l.startswith('use ')]
-    subst = [('use denote.Lend.{Held, lends_slice, slice_back}', 'use denote.Lend.{Held, lends_shr_slice}'), ('lft_new, lft_end}', 'lft_new, lft_end, lent_back}'),
-             ('MutBor, MutRef, mut_vals, mut_Tells}', 'MutBor, ShrRef, shr_vals, shr_Tells}'), ('mut_ref_to, mut_slice_of, shr_slice_of}', 'shr_ref_to, mut_slice_of, shr_slice_of}'), ('stay_ref, stay_none, stay_none_slice,', 'stay_none, stay_none_ref, stay_none_slice,'), ('Goes-gave_slice, Goes-ref,', 'Goes-gave_slice, Goes-none_ref,'),
-             ('use denote.Memory.{mem, shares, part_at, lone}', 'use denote.Memory.{shares, part_at, shared_of, hidden_shr}\nuse denote.Opens.{Opens, twice_dup, shr_open, shr_Shut}\nuse denote.Copied.{uint_Copied}'),
-             ('.{Views}', '.{look_view, learn_view, shared_out, shared_in}'), ('.{Data, Two, at_end}', '.{Data, at_end}')]
-    for a, b in subst:
-        assert any(a in u for u in uses), a
-        uses = [u.replace(a, b) for u in uses]
-    uses = [u for u in uses if 'Reach.{' not in u and 'proofs.Field.{' not in u]
-    print(HEAD + '\n'.join(uses) + '''
-use Rattle.walkkit.proofs.OnHead.{State}
-
-module _ {M : Type 1} {𝓤 : Ura M} (𝓛 : Logic 𝓤) (R D N : RattleType) (dD : Data 𝓛 D) (dN : Data 𝓛 N) (z : State 𝓛 R D dD) where
-  open 𝓛 use {H}
-''')
+    print(open(sys.path[0] + '/OnLook.head').read())
     for name, kinds in [('0', ''), ('1', 'x'), ('sm1', 'smx')]: print(gen('shared_' + name, kinds, 'shr').replace('′', "'").replace('Calleeshared_', 'Calleeshared-').replace('Endshared_', 'Endshared-'))
