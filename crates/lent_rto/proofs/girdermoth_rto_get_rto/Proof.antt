@@ -10,7 +10,6 @@ use Rattle.lent_rto.specs.Says.{GetRto}
 use Rattle.lent_rto.proofs.Shapes.{head, number, state, opens}
 use Rattle.rto_cells.specs.contracts.Head as D
 use Rattle.lent_rto.specs.contracts.Rto as R
-use Rattle.rto_cells.specs.contracts.get_rto as g
 use Rattle.rto_cells.proofs.get_rto.Symbol.{symbol as #g}
 use Rattle.rto_cells.proofs.get_rto.Met as g-thm
 use Rattle.lent_rto.specs.contracts.girdermoth_rto_get_rto.Key.{name as #f}

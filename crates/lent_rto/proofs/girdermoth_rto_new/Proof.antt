@@ -15,7 +15,6 @@ use Rattle.lent_rto.proofs.Shapes.{head, answer, state, said}
 use Rattle.rto_cells.specs.contracts.Head as D
 use Rattle.rto_cells.specs.contracts.Said as S
 use Rattle.lent_rto.specs.contracts.Rto as R
-use Rattle.rto_cells.specs.contracts.new as g
 use Rattle.rto_cells.proofs.new.Symbol.{symbol as #g}
 use Rattle.rto_cells.proofs.new.Met as g-thm
 use Rattle.lent_rto.specs.contracts.girdermoth_rto_new.Key.{name as #f}

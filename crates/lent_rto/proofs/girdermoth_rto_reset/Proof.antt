@@ -14,7 +14,6 @@ use Rattle.lent_rto.proofs.Shapes.{head, answer, state, said}
 use Rattle.rto_cells.specs.contracts.Head as D
 use Rattle.rto_cells.specs.contracts.Said as S
 use Rattle.lent_rto.specs.contracts.Rto as R
-use Rattle.rto_cells.specs.contracts.reset as g
 use Rattle.rto_cells.proofs.reset.Symbol.{symbol as #g}
 use Rattle.rto_cells.proofs.reset.Met as g-thm
 use Rattle.lent_rto.specs.contracts.girdermoth_rto_reset.Key.{name as #f}

@@ -16,7 +16,6 @@ use Rattle.rto_cells.specs.contracts.Head as D
 use Rattle.rto_cells.specs.contracts.Smoothed as N
 use Rattle.rto_cells.specs.contracts.SaidSmoothed as S
 use Rattle.lent_rto.specs.contracts.Rto as R
-use Rattle.rto_cells.specs.contracts.set_new_rtt as g
 use Rattle.rto_cells.proofs.set_new_rtt.Symbol.{symbol as #g}
 use Rattle.rto_cells.proofs.set_new_rtt.Met as g-thm
 use Rattle.lent_rto.specs.contracts.girdermoth_rto_set_new_rtt.Key.{name as #f}

@@ -15,7 +15,6 @@ use Rattle.lent_rto.proofs.Shapes.{head, answer, state, said}
 use Rattle.rto_cells.specs.contracts.Head as D
 use Rattle.rto_cells.specs.contracts.Said as S
 use Rattle.lent_rto.specs.contracts.Rto as R
-use Rattle.rto_cells.specs.contracts.set_rto as g
 use Rattle.rto_cells.proofs.set_rto.Symbol.{symbol as #g}
 use Rattle.rto_cells.proofs.set_rto.Met as g-thm
 use Rattle.lent_rto.specs.contracts.girdermoth_rto_set_rto.Key.{name as #f}

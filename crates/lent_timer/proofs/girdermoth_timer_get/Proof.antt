@@ -15,7 +15,6 @@ use Rattle.lent_timer.proofs.Shapes.{head, due, state, opens}
 use Rattle.timer_cells.specs.contracts.Head as D
 use Rattle.timer_cells.specs.contracts.Due as N
 use Rattle.lent_timer.specs.contracts.Timers as R
-use Rattle.timer_cells.specs.contracts.get as g
 use Rattle.timer_cells.proofs.get.Symbol.{symbol as #g}
 use Rattle.timer_cells.proofs.get.Met as g-thm
 use Rattle.lent_timer.specs.contracts.girdermoth_timer_get.Key.{name as #f}

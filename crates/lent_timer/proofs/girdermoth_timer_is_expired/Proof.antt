@@ -16,7 +16,6 @@ use Rattle.timer_cells.specs.contracts.Head as D
 use Rattle.timer_cells.specs.contracts.Expired as N
 use Rattle.timer_cells.specs.contracts.SaidExpired as S
 use Rattle.lent_timer.specs.contracts.Timers as R
-use Rattle.timer_cells.specs.contracts.is_expired as g
 use Rattle.timer_cells.proofs.is_expired.Symbol.{symbol as #g}
 use Rattle.timer_cells.proofs.is_expired.Met as g-thm
 use Rattle.lent_timer.specs.contracts.girdermoth_timer_is_expired.Key.{name as #f}

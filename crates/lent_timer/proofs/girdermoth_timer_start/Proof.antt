@@ -15,7 +15,6 @@ use Rattle.lent_timer.proofs.Shapes.{head, answer, state, said}
 use Rattle.timer_cells.specs.contracts.Head as D
 use Rattle.timer_cells.specs.contracts.Said as S
 use Rattle.lent_timer.specs.contracts.Timers as R
-use Rattle.timer_cells.specs.contracts.start as g
 use Rattle.timer_cells.proofs.start.Symbol.{symbol as #g}
 use Rattle.timer_cells.proofs.start.Met as g-thm
 use Rattle.lent_timer.specs.contracts.girdermoth_timer_start.Key.{name as #f}

@@ -12,7 +12,6 @@ use Rattle.lent_timer.proofs.Shapes.{head, due, state, opens}
 use Rattle.timer_cells.specs.contracts.Head as D
 use Rattle.timer_cells.specs.contracts.Due as N
 use Rattle.lent_timer.specs.contracts.Timers as R
-use Rattle.timer_cells.specs.contracts.next_timeout as g
 use Rattle.timer_cells.proofs.next_timeout.Symbol.{symbol as #g}
 use Rattle.timer_cells.proofs.next_timeout.Met as g-thm
 use Rattle.lent_timer.specs.contracts.girdermoth_timers_next_timeout.Key.{name as #f}
