@@ -2,7 +2,7 @@
 --     of_two           S is a struct of a head and a reply: `Lent.antt`'s `Two`
 --     cells_first      R is a struct of n words, n below 1024, and a head, in this order: `OnHead.antt`'s `State`
 --     halves_of        a share of an R in memory is its two halves, and back
---     opens_of         a `&R` can be looked into: what `OnLook.antt` takes
+--     opens_of         a `&R` can be looked into: what `OnLook.antt` takes.        opens_whole      so too at any type that a `&` shares as one family, from its halves
 -- What a struct's generated modules know by computing, as where a field lies, is an argument, and `refl` where these are cited.
 -- It says nothing of the crate. Assumes `Logic`.
 use mathlib.Core.Path.{◌≡◌, refl, sym, ap, subst, ◌∙◌}
@@ -20,7 +20,10 @@ use types.Logic.{Logic}
 use denote.RattleType.{RattleType}
 use denote.Laws.{Is, valss}
 use denote.Memory.{pointee, part_at}
-use denote.Opens.{Opens, Cuts-Halves}
+use denote.Opens.{Opens, Opened, Twice, Cuts-Halves, Opened-one, Twice-of}
+use denote.Sharing.{one as one_family}
+use denote.SharingLaws.{one_shr_laws}
+use denote.Shares.{Whole}
 use denote.Builtin.{u64}
 use denote.Array.{Array}
 use denote.Slice.{Room}
@@ -44,6 +47,12 @@ module _ {M : Type 1} {𝓤 : Ura M} (𝓛 : Logic 𝓤) where
 
   pub opens_of : (R : Declared) → LL.Copyables R.parts → Opens 𝓛 (row R)
   opens_of R c = (LL.copied R c 𝓛).opens
+
+  pub opens_whole : (R : RattleType) → Whole R → ((h : R.Denot) (b o : ℕ) → Halves 𝓤 H A (λ q. part_at R q h b o)) → Opens 𝓛 R
+  opens_whole R whole halves h b o = (
+    subst (Opened 𝓛 (λ q. part_at R q h b o)) (sym (whole h b o)) (Opened-one 𝓛 (λ q. part_at R q h b o) (halves h b o)),
+    subst (Twice 𝓛) (sym (whole h b o)) (Twice-of 𝓛 (one_family (λ q. part_at R q h b o)) (one_shr_laws (λ q. part_at R q h b o))),
+  )
 
   -- the reply lies d bytes past the head
   module _ (S : Declared) (L : LL.Laws S) {R N : RattleType} (dR : Data 𝓛 R) (dN : Data 𝓛 N) (d : ℕ) where

@@ -17,7 +17,6 @@ use Rattle.sender_head.specs.contracts.Head as D
 use Rattle.flat.specs.contracts.Freed as N
 use Rattle.flat.specs.contracts.SaidFreed as S
 use Rattle.lent.specs.contracts.Sender as R
-use Rattle.flat_calls.specs.contracts.abandon as g
 use Rattle.flat_calls.proofs.abandon.Symbol.{symbol as #g}
 use Rattle.flat_calls.proofs.abandon.Met as g-thm
 use Rattle.lent.specs.contracts.girdermoth_abandon.Key.{name as #f}

@@ -12,7 +12,6 @@ use Rattle.lent.proofs.Shapes.{head, reply, state, opens}
 use Rattle.sender_head.specs.contracts.Head as D
 use Rattle.flat.specs.contracts.Reply as N
 use Rattle.lent.specs.contracts.Sender as R
-use Rattle.flat_calls.specs.contracts.buffered_amount as g
 use Rattle.flat_calls.proofs.buffered_amount.Symbol.{symbol as #g}
 use Rattle.flat_calls.proofs.buffered_amount.Met as g-thm
 use Rattle.lent.specs.contracts.girdermoth_buffered_amount.Key.{name as #f}

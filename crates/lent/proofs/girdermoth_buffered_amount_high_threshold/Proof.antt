@@ -12,7 +12,6 @@ use Rattle.lent.proofs.Shapes.{head, reply, state, opens}
 use Rattle.sender_head.specs.contracts.Head as D
 use Rattle.flat.specs.contracts.Reply as N
 use Rattle.lent.specs.contracts.Sender as R
-use Rattle.flat_calls.specs.contracts.buffered_amount_high_threshold as g
 use Rattle.flat_calls.proofs.buffered_amount_high_threshold.Symbol.{symbol as #g}
 use Rattle.flat_calls.proofs.buffered_amount_high_threshold.Met as g-thm
 use Rattle.lent.specs.contracts.girdermoth_buffered_amount_high_threshold.Key.{name as #f}

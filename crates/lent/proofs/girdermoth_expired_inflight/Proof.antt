@@ -17,7 +17,6 @@ use Rattle.sender_head.specs.contracts.Head as D
 use Rattle.flat.specs.contracts.Reply as N
 use Rattle.flat.specs.contracts.Said as S
 use Rattle.lent.specs.contracts.Sender as R
-use Rattle.flat_calls.specs.contracts.expired_inflight as g
 use Rattle.flat_calls.proofs.expired_inflight.Symbol.{symbol as #g}
 use Rattle.flat_calls.proofs.expired_inflight.Met as g-thm
 use Rattle.lent.specs.contracts.girdermoth_expired_inflight.Key.{name as #f}

@@ -12,7 +12,6 @@ use Rattle.lent.proofs.Shapes.{head, fragment, state, opens}
 use Rattle.sender_head.specs.contracts.Head as D
 use Rattle.flat.specs.contracts.Fragment as N
 use Rattle.lent.specs.contracts.Sender as R
-use Rattle.flat_calls.specs.contracts.get as g
 use Rattle.flat_calls.proofs.get.Symbol.{symbol as #g}
 use Rattle.flat_calls.proofs.get.Met as g-thm
 use Rattle.lent.specs.contracts.girdermoth_get.Key.{name as #f}

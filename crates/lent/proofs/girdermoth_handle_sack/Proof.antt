@@ -15,7 +15,6 @@ use Rattle.sender_head.specs.contracts.Head as D
 use Rattle.flat.specs.contracts.Sacked as N
 use Rattle.flat.specs.contracts.SaidSacked as S
 use Rattle.lent.specs.contracts.Sender as R
-use Rattle.flat_calls.specs.contracts.handle_sack as g
 use Rattle.flat_calls.proofs.handle_sack.Symbol.{symbol as #g}
 use Rattle.flat_calls.proofs.handle_sack.Met as g-thm
 use Rattle.lent.specs.contracts.girdermoth_handle_sack.Key.{name as #f}

@@ -12,7 +12,6 @@ use Rattle.lent.proofs.Shapes.{head, reply, state, opens}
 use Rattle.sender_head.specs.contracts.Head as D
 use Rattle.flat.specs.contracts.Reply as N
 use Rattle.lent.specs.contracts.Sender as R
-use Rattle.flat_calls.specs.contracts.is_abandoned as g
 use Rattle.flat_calls.proofs.is_abandoned.Symbol.{symbol as #g}
 use Rattle.flat_calls.proofs.is_abandoned.Met as g-thm
 use Rattle.lent.specs.contracts.girdermoth_is_abandoned.Key.{name as #f}

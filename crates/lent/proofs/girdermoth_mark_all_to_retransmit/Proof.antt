@@ -10,7 +10,6 @@ use Rattle.sender_head.specs.contracts.Head as D
 use Rattle.flat.specs.contracts.Reply as N
 use Rattle.flat.specs.contracts.Said as S
 use Rattle.lent.specs.contracts.Sender as R
-use Rattle.flat_calls.specs.contracts.mark_all_to_retransmit as g
 use Rattle.flat_calls.proofs.mark_all_to_retransmit.Symbol.{symbol as #g}
 use Rattle.flat_calls.proofs.mark_all_to_retransmit.Met as g-thm
 use Rattle.lent.specs.contracts.girdermoth_mark_all_to_retransmit.Key.{name as #f}

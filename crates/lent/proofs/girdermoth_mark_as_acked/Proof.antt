@@ -13,7 +13,6 @@ use Rattle.sender_head.specs.contracts.Head as D
 use Rattle.flat.specs.contracts.Reply as N
 use Rattle.flat.specs.contracts.Said as S
 use Rattle.lent.specs.contracts.Sender as R
-use Rattle.flat_calls.specs.contracts.mark_as_acked as g
 use Rattle.flat_calls.proofs.mark_as_acked.Symbol.{symbol as #g}
 use Rattle.flat_calls.proofs.mark_as_acked.Met as g-thm
 use Rattle.lent.specs.contracts.girdermoth_mark_as_acked.Key.{name as #f}

@@ -9,7 +9,6 @@ use Rattle.lent.proofs.Shapes.{head, reply, state, opens}
 use Rattle.sender_head.specs.contracts.Head as D
 use Rattle.flat.specs.contracts.Reply as N
 use Rattle.lent.specs.contracts.Sender as R
-use Rattle.flat_calls.specs.contracts.next_deadline as g
 use Rattle.flat_calls.proofs.next_deadline.Symbol.{symbol as #g}
 use Rattle.flat_calls.proofs.next_deadline.Met as g-thm
 use Rattle.lent.specs.contracts.girdermoth_next_deadline.Key.{name as #f}

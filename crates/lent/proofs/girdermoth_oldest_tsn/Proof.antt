@@ -9,7 +9,6 @@ use Rattle.lent.proofs.Shapes.{head, reply, state, opens}
 use Rattle.sender_head.specs.contracts.Head as D
 use Rattle.flat.specs.contracts.Reply as N
 use Rattle.lent.specs.contracts.Sender as R
-use Rattle.flat_calls.specs.contracts.oldest_tsn as g
 use Rattle.flat_calls.proofs.oldest_tsn.Symbol.{symbol as #g}
 use Rattle.flat_calls.proofs.oldest_tsn.Met as g-thm
 use Rattle.lent.specs.contracts.girdermoth_oldest_tsn.Key.{name as #f}

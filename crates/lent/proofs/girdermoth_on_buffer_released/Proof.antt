@@ -14,7 +14,6 @@ use Rattle.sender_head.specs.contracts.Head as D
 use Rattle.flat.specs.contracts.Reply as N
 use Rattle.flat.specs.contracts.Said as S
 use Rattle.lent.specs.contracts.Sender as R
-use Rattle.flat_calls.specs.contracts.on_buffer_released as g
 use Rattle.flat_calls.proofs.on_buffer_released.Symbol.{symbol as #g}
 use Rattle.flat_calls.proofs.on_buffer_released.Met as g-thm
 use Rattle.lent.specs.contracts.girdermoth_on_buffer_released.Key.{name as #f}

@@ -17,7 +17,6 @@ use Rattle.sender_head.specs.contracts.Head as D
 use Rattle.flat.specs.contracts.Reply as N
 use Rattle.flat.specs.contracts.Said as S
 use Rattle.lent.specs.contracts.Sender as R
-use Rattle.flat_calls.specs.contracts.open_stream as g
 use Rattle.flat_calls.proofs.open_stream.Symbol.{symbol as #g}
 use Rattle.flat_calls.proofs.open_stream.Met as g-thm
 use Rattle.lent.specs.contracts.girdermoth_open_stream.Key.{name as #f}

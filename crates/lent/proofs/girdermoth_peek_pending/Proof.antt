@@ -9,7 +9,6 @@ use Rattle.lent.proofs.Shapes.{head, fragment, state, opens}
 use Rattle.sender_head.specs.contracts.Head as D
 use Rattle.flat.specs.contracts.Fragment as N
 use Rattle.lent.specs.contracts.Sender as R
-use Rattle.flat_calls.specs.contracts.peek_pending as g
 use Rattle.flat_calls.proofs.peek_pending.Symbol.{symbol as #g}
 use Rattle.flat_calls.proofs.peek_pending.Met as g-thm
 use Rattle.lent.specs.contracts.girdermoth_peek_pending.Key.{name as #f}

@@ -13,7 +13,6 @@ use Rattle.sender_head.specs.contracts.Head as D
 use Rattle.flat.specs.contracts.Fragment as N
 use Rattle.flat.specs.contracts.SaidFragment as S
 use Rattle.lent.specs.contracts.Sender as R
-use Rattle.flat_calls.specs.contracts.pop as g
 use Rattle.flat_calls.proofs.pop.Symbol.{symbol as #g}
 use Rattle.flat_calls.proofs.pop.Met as g-thm
 use Rattle.lent.specs.contracts.girdermoth_pop.Key.{name as #f}

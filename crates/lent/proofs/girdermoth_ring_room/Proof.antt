@@ -15,7 +15,6 @@ use Rattle.lent.proofs.Shapes.{head, reply, state, opens}
 use Rattle.sender_head.specs.contracts.Head as D
 use Rattle.flat.specs.contracts.Reply as N
 use Rattle.lent.specs.contracts.Sender as R
-use Rattle.flat_calls.specs.contracts.ring_room as g
 use Rattle.flat_calls.proofs.ring_room.Symbol.{symbol as #g}
 use Rattle.flat_calls.proofs.ring_room.Met as g-thm
 use Rattle.lent.specs.contracts.girdermoth_ring_room.Key.{name as #f}

@@ -17,7 +17,6 @@ use Rattle.sender_head.specs.contracts.Head as D
 use Rattle.flat.specs.contracts.Fragment as N
 use Rattle.flat.specs.contracts.SaidFragment as S
 use Rattle.lent.specs.contracts.Sender as R
-use Rattle.flat_calls.specs.contracts.send_next as g
 use Rattle.flat_calls.proofs.send_next.Symbol.{symbol as #g}
 use Rattle.flat_calls.proofs.send_next.Met as g-thm
 use Rattle.lent.specs.contracts.girdermoth_send_next.Key.{name as #f}

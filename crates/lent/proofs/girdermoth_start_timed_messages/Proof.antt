@@ -17,7 +17,6 @@ use Rattle.sender_head.specs.contracts.Head as D
 use Rattle.flat.specs.contracts.Reply as N
 use Rattle.flat.specs.contracts.Said as S
 use Rattle.lent.specs.contracts.Sender as R
-use Rattle.flat_calls.specs.contracts.start_timed_messages as g
 use Rattle.flat_calls.proofs.start_timed_messages.Symbol.{symbol as #g}
 use Rattle.flat_calls.proofs.start_timed_messages.Met as g-thm
 use Rattle.lent.specs.contracts.girdermoth_start_timed_messages.Key.{name as #f}

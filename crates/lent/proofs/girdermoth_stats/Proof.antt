@@ -12,7 +12,6 @@ use Rattle.lent.proofs.Shapes.{head, counts, state, opens}
 use Rattle.sender_head.specs.contracts.Head as D
 use Rattle.flat.specs.contracts.Counts as N
 use Rattle.lent.specs.contracts.Sender as R
-use Rattle.flat_calls.specs.contracts.stats as g
 use Rattle.flat_calls.proofs.stats.Symbol.{symbol as #g}
 use Rattle.flat_calls.proofs.stats.Met as g-thm
 use Rattle.lent.specs.contracts.girdermoth_stats.Key.{name as #f}
