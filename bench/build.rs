@@ -19,7 +19,7 @@ fn variable(name: &str) -> OsString {
     env::var_os(name).unwrap_or_else(|| panic!("cargo sets {name}"))
 }
 
-/// The anchor, by the clang that compiles the archives and with the same words (tools/archives), or by `cc` where the kit has none for this machine.
+/// The anchor, by the clang that compiles the archives (tools/archives) at the same -O3, or by `cc` where the kit is not here.
 /// The kit has no C headers, so `cc`, which cargo links with anyway, always does the including.
 fn compile_anchor(root: &Path) {
     let (source, header) = (root.join("anchor.c"), root.join("../include/girdermoth.h"));
@@ -38,15 +38,11 @@ fn compile_anchor(root: &Path) {
     println!("cargo::rustc-link-lib=static=anchor");
 }
 
-/// The kit stands where `RATTLE_HOME` says, or around the `rt` of the path.
+/// The kit stands around the `rt` of the path.
 fn kit_clang() -> Option<Command> {
-    println!("cargo::rerun-if-env-changed=RATTLE_HOME");
     println!("cargo::rerun-if-env-changed=PATH");
-    let kit = env::var_os("RATTLE_HOME").map(PathBuf::from).or_else(|| {
-        let rt = env::split_paths(&env::var_os("PATH")?).map(|folder| folder.join("rt")).find(|rt| rt.is_file())?;
-        Some(rt.canonicalize().ok()?.parent()?.parent()?.to_path_buf())
-    })?;
-    let clang = kit.join("on").join(variable("CARGO_CFG_TARGET_ARCH")).join("toolchain/bin/clang");
+    let rt = env::split_paths(&env::var_os("PATH")?).map(|folder| folder.join("rt")).find(|rt| rt.is_file())?;
+    let clang = rt.canonicalize().ok()?.parent()?.parent()?.join("toolchain/bin/clang");
     let mut target = OsString::from("--target=");
     target.push(variable("TARGET"));
     clang.is_file().then(|| {

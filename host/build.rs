@@ -1,5 +1,5 @@
-//! Finds the archives that the crate links. Either `GIRDERMOTH_ARCHIVE` names them (one or more paths, as in `PATH`), or `rt staticlib` proves
-//! and writes them, from the repository's root.
+//! Finds the archives that the crate links. Either `GIRDERMOTH_ARCHIVE` names them (one or more paths, as in `PATH`), or `rt lib` proves and writes
+//! them, in the folders of their Rattle crates.
 
 use std::env;
 use std::fs;
@@ -16,27 +16,40 @@ fn fail(what: &str) -> ! {
 
 /// The archive of one Rattle crate, proved and compiled.
 fn prove(root: &Path, name: &str) -> PathBuf {
-    let made = match Command::new("rt").args(["staticlib", name]).current_dir(root).output() {
+    let folder = root.join("crates").join(name);
+    let made = match Command::new("rt").arg("lib").current_dir(&folder).output() {
         Ok(made) => made,
         Err(error) => fail(&format!(
-            "cannot run `rt staticlib {name}`: {error}. Put the Rattle kit's `rt` on the PATH, or name the archives in GIRDERMOTH_ARCHIVE"
+            "cannot run `rt lib` in {}: {error}. Put the Rattle kit's `rt` on the PATH, or name the archives in GIRDERMOTH_ARCHIVE",
+            folder.display()
         )),
     };
     if !made.status.success() {
         eprint!("{}{}", String::from_utf8_lossy(&made.stdout), String::from_utf8_lossy(&made.stderr));
-        fail(&format!("`rt staticlib {name}` in {} ended with {}", root.display(), made.status));
+        fail(&format!("`rt lib` in {} ended with {}", folder.display(), made.status));
     }
-    root.join("target/staticlib").join(format!("lib{name}.a"))
+    folder.join("out").join(format!("lib{name}.a"))
 }
 
-/// On Arm the same modules are compiled by tools/archives, for tests: the line to use.
-fn on_arm(root: &Path) -> String {
-    let archives = CRATES.map(|name| root.join(format!("target/archives/lib{name}.a")).display().to_string()).join(":");
-    let build = root.join("tools/archives");
+/// The kit runs on x86-64 alone: there tools/archives makes the archives for Arm. What to do with them.
+fn on_arm() -> String {
+    let archives = CRATES.map(|name| format!("FOLDER/lib{name}.a")).join(":");
     format!(
-        "`rt staticlib` compiles for x86-64 Linux only. On Arm, for tests, use:\n\n    {} && export GIRDERMOTH_ARCHIVE={archives}\n",
-        build.display()
+        "the Rattle kit runs on x86-64 Linux only. There `tools/archives aarch64` makes the archives for Arm, in target/archives/aarch64. \
+         Carry them here, to a folder, and name them:\n\n    export GIRDERMOTH_ARCHIVE={archives}\n"
     )
+}
+
+/// What a proof or an archive is made of: cargo runs this again where any of it changes.
+fn watch(root: &Path) {
+    println!("cargo::rerun-if-changed={}", root.join("crates.txt").display());
+    for crate_folder in fs::read_dir(root.join("crates")).into_iter().flatten().flatten() {
+        for part in ["src", "specs", "proofs"].map(|part| crate_folder.path().join(part)) {
+            if part.is_dir() {
+                println!("cargo::rerun-if-changed={}", part.display());
+            }
+        }
+    }
 }
 
 fn main() {
@@ -54,14 +67,13 @@ fn main() {
             let (machine, system) = (env::var("CARGO_CFG_TARGET_ARCH"), env::var("CARGO_CFG_TARGET_OS"));
             match (machine.as_deref(), system.as_deref()) {
                 (Ok("x86_64"), Ok("linux")) => (),
-                (Ok("aarch64"), Ok("linux")) => fail(&on_arm(root)),
-                _ => fail("`rt staticlib` compiles for x86-64 Linux only; name archives for another target in GIRDERMOTH_ARCHIVE"),
+                (Ok("aarch64"), Ok("linux")) => fail(&on_arm()),
+                _ => fail("`rt lib` compiles for Linux only; name archives for another target in GIRDERMOTH_ARCHIVE"),
             }
             if !root.join("crates.txt").is_file() {
                 fail(&format!("{} has no crates.txt: build in the repository, or name the archives in GIRDERMOTH_ARCHIVE", root.display()));
             }
-            println!("cargo::rerun-if-changed={}", root.join("crates").display());
-            println!("cargo::rerun-if-changed={}", root.join("crates.txt").display());
+            watch(root);
             CRATES.iter().map(|name| prove(root, name)).collect()
         }
     };

@@ -1,0 +1,17 @@
+-- The same of the sender that is taken apart, whose room is 01's.
+use mathlib.Core.Path.{◌≡◌}
+use lib.ListN.{length}
+use Rattle.limits.specs.Limits.{Room}
+use Rattle.model.specs.Streams.{open_stream}
+use Rattle.model.specs.Told.{told_done}
+use Rattle.sender.specs.Sizes.{sizes}
+use Rattle.sender.specs.Value.{state_of, said_at, with_told, stays}
+use borrow.Author.Rules.{rules}
+use Rattle.sender.proofs.open_stream.Goals as goal
+
+pub returns : goal.returns
+returns c =
+    let a = c.args in
+    let m = c.open_stream-opening in
+    let e : length a.s.cells ≡ 6656 = search rules in
+    (with_told told_done (said_at (λ (room : Room). open_stream room a.identifier a.maximum (state_of a.s)) (sizes a.s.cells e) m.ensures.0.0, m.ensures.0.1), λ n. stays (m.ensures.1 n))

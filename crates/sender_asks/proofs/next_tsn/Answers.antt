@@ -1,0 +1,13 @@
+-- The queue's answer, of the whole sender.
+use mathlib.Core.Path.{ap, ◌∙◌}
+use Rattle.model.specs.State.{Sender, next_tsn}
+use Rattle.sender_head.specs.Lent.{open_streams, lent_sender}
+use Rattle.sender_asks.proofs.next_tsn.Goals as goal
+
+pub returns : goal.returns
+returns c =
+    let a = c.args in
+    let h = a.h in
+    let ws = a.cells.now in
+    let k = c.table_words-k.ensures.0 in
+    c.next_tsn.ensures (open_streams h ws _ k) ∙ ap (λ (s : Sender). next_tsn s) (lent_sender h ws _ k)

@@ -1,0 +1,15 @@
+-- The queue's answer, of the whole sender.
+use mathlib.Core.Path.{ap, ◌∙◌}
+use Rattle.model.specs.State.{Sender}
+use Rattle.model.specs.Rings.{head}
+use Rattle.model.specs.Flight.{found}
+use Rattle.sender_head.specs.Lent.{lent_sender}
+use Rattle.sender_asks.proofs.peek_pending.Goals as goal
+
+pub returns : goal.returns
+returns c =
+    let a = c.args in
+    let h = a.h in
+    let ws = a.cells.now in
+    let k = c.table_words-k.ensures.0 in
+    c.peek_pending.ensures ∙ ap (λ (s : Sender). found (head s.pending)) (lent_sender h ws _ k)
