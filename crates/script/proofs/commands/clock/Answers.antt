@@ -48,3 +48,7 @@ returns-in-9 c = cc
 pub returns-in-10 : goal.returns-in-10
 unfolding clock_of
 returns-in-10 c = simp (c.in-10.is, c.timer-which.ensures)
+
+pub returns-in_default : goal.returns-in_default
+unfolding clock_of
+returns-in_default c = let x = c.args in past (clocks x.a x.b x.c x.d x.e) x.row Command.Bad (passed 11 x.row c.in_default.in_default-own.rest)

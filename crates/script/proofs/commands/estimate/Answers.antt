@@ -24,3 +24,7 @@ returns-in-3 c = cc
 pub returns-in-4 : goal.returns-in-4
 unfolding estimate_of
 returns-in-4 c = cc
+
+pub returns-in_default : goal.returns-in_default
+unfolding estimate_of
+returns-in_default c = let x = c.args in past (estimates x.a x.b x.c) x.row Command.Bad (passed 5 x.row c.in_default.in_default-own.rest)

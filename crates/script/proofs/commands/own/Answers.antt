@@ -68,3 +68,7 @@ returns-in-14 c = simp c.in-14.is
 pub returns-in-15 : goal.returns-in-15
 unfolding own_of
 returns-in-15 c = simp c.in-15.is
+
+pub returns-in_default : goal.returns-in_default
+unfolding own_of
+returns-in_default c = let x = c.args in past (owns x.a x.b x.c) x.row Command.Bad (passed 16 x.row c.in_default.in_default-own.rest)
