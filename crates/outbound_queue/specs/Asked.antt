@@ -1,7 +1,7 @@
 -- What is asked of the queue, as code finds it out.
 use Rattle.std.specs.Prelude.{◌≡◌, Bool, false, ◌||◌, List, ◌++◌, ℕ, eqb}
 use Rattle.std.proofs.Common.{sym, ap}
-use Rattle.std.proofs.Math.Option.{Option, none, some}
+use Rattle.std.proofs.Math.Option.{Option}
 use Rattle.model.specs.declared.Chunk.{Chunk}
 use Rattle.model.specs.declared.Found.{Found}
 use Rattle.model.specs.Flight.{found, is_abandoned, has_stream}

@@ -13,7 +13,7 @@ use Rattle.script.specs.Table.{table, row_of}
 use Rattle.script.specs.Arguments.{before_of}
 use Rattle.script.specs.Commands.{estimate_of, made_of, command_of, command_in}
 use Rattle.script.specs.declared.Line.{Line}
-use Rattle.script.specs.Meaning.{blank, whole, words_from}
+use Rattle.script.specs.Meaning.{blank, words_from}
 use Rattle.script.specs.Lines.{start_of, stored_of, marked_of, ended_of, longer_of, feed_of, finish_of, fed_of}
 use Rattle.script.specs.Claims.{ReadsLines}
 

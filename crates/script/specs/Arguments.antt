@@ -1,5 +1,5 @@
 -- What a word is as an argument of a kind, and the words of a call that a line's arguments are.
-use Rattle.std.specs.Prelude.{ℕ, ◌-◌, Bool, true, false, cond, List, [], ◌∷◌, get_or, eqb, ltb, leb}
+use Rattle.std.specs.Prelude.{ℕ, ◌-◌, true, false, cond, List, [], ◌∷◌, get_or, eqb, ltb, leb}
 use Rattle.words.specs.declared.Token.{Token}
 use Rattle.words.specs.Tokens.{code_of}
 use Rattle.script.specs.declared.table.Row.{Row}

@@ -1,5 +1,5 @@
 -- The table at work: a line for each of its rows, with the call that the line is; and lines that are none.
-use Rattle.std.specs.Prelude.{◌≡◌, true, false, ◌-◌, pos, negsuc}
+use Rattle.std.specs.Prelude.{◌≡◌, true, false, pos, negsuc}
 use Prim.Native.String.{String}
 use Rattle.limits.specs.declared.Moment.{Moment}
 use Rattle.timer.specs.declared.Timer.{Timer}

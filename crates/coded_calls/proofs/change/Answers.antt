@@ -6,7 +6,7 @@ use mir.Syntax.{w64}
 use mir.Val.{SFits}
 use mir.Facts.{to_z-of_z}
 use Rattle.calls.specs.declared.Call.TheVariants.{Open, SetReliability, SetLow, SetHigh, Write, Release, Abandon, Acknowledge, Pop}
-use Rattle.coded_calls.specs.Picked.{row_change, passed, row_last}
+use Rattle.coded_calls.specs.Picked.{row_change}
 use borrow.Author.Rules.{rules}
 use Rattle.coded_calls.proofs.change.Goals as goal
 

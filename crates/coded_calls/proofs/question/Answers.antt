@@ -1,7 +1,7 @@
 -- By the row.
 use mathlib.Core.Path.{ap}
 use Rattle.calls.specs.declared.Query.TheVariants.{Get, IsAbandoned, PendingContainsStream, ContainsStream, BufferedAmount, LowThreshold, HighThreshold}
-use Rattle.coded_calls.specs.Picked.{row_question, passed, row_statistics}
+use Rattle.coded_calls.specs.Picked.{row_question}
 use Rattle.coded_calls.proofs.question.Goals as goal
 
 pub returns-in-0 : goal.returns-in-0

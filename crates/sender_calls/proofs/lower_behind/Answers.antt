@@ -1,7 +1,7 @@
 -- By the answer.
 use mathlib.Core.Path.{refl}
 use Rattle.sender_head.specs.Whole.{sender_of}
-use Rattle.sender_calls.specs.Behind.{behind_none, behind_refused, behind_told, behind_unordered, behind_ordered}
+use Rattle.sender_calls.specs.Behind.{behind_none, behind_refused, behind_unordered}
 use Rattle.sender_calls.proofs.lower_behind.Goals as goal
 
 pub returns-then-unordered : goal.returns-then-unordered

@@ -2,7 +2,7 @@
 use mathlib.Core.Path.{sym, ◌∙◌}
 use Rattle.model.specs.State.{in_flight}
 use Rattle.outbound_queue.specs.Outbound.{rings_in, flying}
-use Rattle.outbound_queue.specs.Asked.{unknown_is, known_is}
+use Rattle.outbound_queue.specs.Asked.{unknown_is}
 use Rattle.outbound_queue.proofs.asks.is_abandoned.Goals as goal
 
 pub returns-in_default : goal.returns-in_default
