@@ -9,9 +9,9 @@ use Rattle.stream.proofs.amounts.on_buffer_released.Goals as goal
 
 pub overflow_cast-released : goal.overflow_cast-released
 overflow_cast-released c =
-    (above_zero (to_z w64 (of_z w64 c.args.released)) c.if-released-le0.false, Fits-nat_abs tt (sfits_to_z (Fits-of_z c.ranges.released)))
+    (above_zero (to_z w64 (of_z w64 c.args.released)) (assumption), Fits-nat_abs tt (sfits_to_z (Fits-of_z c.ranges.released)))
 
 pub returns : goal.returns
 returns c =
     let a = c.args in
-    free_some (to_z w64 (of_z w64 a.released)) a.stream c.if-released-le0.false c.lessened-buffered.ensures c.accounted-after.ensures c.falls-low.ensures ∙ ap (λ (z : ℤ). freeing z a.stream) (to_z-of_z c.ranges.released)
+    free_some (to_z w64 (of_z w64 a.released)) a.stream (assumption) c.lessened-buffered.ensures c.accounted-after.ensures c.falls-low.ensures ∙ ap (λ (z : ℤ). freeing z a.stream) (to_z-of_z c.ranges.released)

@@ -15,4 +15,4 @@ pub returns-then-length-blocks : goal.returns-then-length-blocks
 returns-then-length-blocks c = let p = c.args.packet.now in other_length p (omega arith) (sym c.byte.ensures ∙ c.if-byte-ne-SACK.false) (λ q. c.if-length-blocks.true (omega (arith, q, c.short-length.ensures, c.short-blocks.ensures, c.short-duplicates.ensures)))
 
 pub returns : goal.returns
-returns c = let p = c.args.packet.now in (λ i. Layout.Sack (c.long.ensures i) (c.short-blocks.ensures i)) ∙ it_is p (omega arith) (sym c.byte.ensures ∙ c.if-byte-ne-SACK.false) (omega (arith, c.if-length-blocks.false, c.short-length.ensures, c.short-blocks.ensures, c.short-duplicates.ensures)) (omega (arith, c.if-length-lent.false, c.short-length.ensures))
+returns c = let p = c.args.packet.now in (λ i. Layout.Sack (c.long.ensures i) (c.short-blocks.ensures i)) ∙ it_is p (omega arith) (sym c.byte.ensures ∙ c.if-byte-ne-SACK.false) (omega (arith, c.if-length-blocks.false, c.short-length.ensures, c.short-blocks.ensures, c.short-duplicates.ensures)) (omega (arith, c.short-length.ensures))
