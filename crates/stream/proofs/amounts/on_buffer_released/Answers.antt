@@ -4,7 +4,7 @@ use lib.IntN.{ℤ}
 use mir.Syntax.{w64}
 use mir.Val.{to_z, of_z}
 use mir.Facts.{Fits-nat_abs, Fits-of_z, sfits_to_z, to_z-of_z}
-use Rattle.stream.specs.Amounts.{freeing, free_none, free_some, above_zero}
+use Rattle.stream.specs.Amounts.{freeing, free_some, above_zero}
 use Rattle.stream.proofs.amounts.on_buffer_released.Goals as goal
 
 pub overflow_cast-released : goal.overflow_cast-released

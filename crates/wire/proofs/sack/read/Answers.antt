@@ -2,7 +2,7 @@
 use Rattle.wire.specs.declared.sack.Layout.{Layout}
 use mathlib.Core.Path.{sym, ◌∙◌}
 use native.Mathlib.Omega.{arith}
-use Rattle.wire.specs.SackReads.{too_few, other_type, other_length, other_lent, it_is}
+use Rattle.wire.specs.SackReads.{too_few, other_type, other_length, it_is}
 use Rattle.wire.proofs.sack.read.Goals as goal
 
 pub returns-then-lent-lt-FIXED : goal.returns-then-lent-lt-FIXED
