@@ -4,7 +4,7 @@
 usage: tools/respell.py [ROOT]
 
 Types, facts and modules keep their capitals, and so do functions of src/, strings and file names. Where a lemma's new name is that of a definition, the
-lemma gets `_lem`. What it cites of libraries stays. In comments and pages it turns names in back quotes, and those in camel case everywhere.
+lemma gets `_lem`. What it cites of libraries stays. In comments it turns names in back quotes, and those in camel case everywhere.
 """
 import collections
 import os
