@@ -1,14 +1,11 @@
 -- What lines do to the script's arrays of bytes, and the laws of it.
-use Rattle.std.specs.Prelude.{◌≡◌, ℕ, zero, suc, ◌+◌, ◌-◌, ◌/◌, ◌%◌, ◌<◌, ◌≤◌, min, Bool, true, false, List, [], ◌∷◌, ◌++◌, length, take, drop, set, slice_index, slice_set, refl}
-use Rattle.std.proofs.Common.{sym, ap, ◌∙◌, append-nil, zero-add, arith, length-append, drop_of_length-le, take_all}
-use Rattle.std.proofs.Math.Decide.{dec_lt}
+use Rattle.std.specs.Prelude.{◌≡◌, ℕ, zero, suc, ◌+◌, ◌-◌, ◌/◌, ◌%◌, ◌<◌, ◌≤◌, Bool, true, false, List, [], ◌∷◌, ◌++◌, length, take, drop, set, slice_index, slice_set, refl}
+use Rattle.std.proofs.Common.{sym, ap, ◌∙◌, append-nil, zero-add, arith, length-append, drop_of_length-le}
 use Rattle.std.proofs.lemmas.List.Edits.{sets}
 use Rattle.std.proofs.lemmas.List.{set_comm}
-use Rattle.std.proofs.Math.Seq.{drop-length}
-use Rattle.octets.specs.Puts.{placed, placed_length, place_more, placed_all, sets_append, sets_front}
+use Rattle.octets.specs.Puts.{placed, place_more, placed_all, sets_append, sets_front}
 use Rattle.model.specs.State.{Sender}
-use Rattle.model.specs.declared.Laid.{Laid}
-use Rattle.model.specs.Data.{Output, data_chunk}
+use Rattle.model.specs.Data.{data_chunk}
 
 -- ---- every byte: the seed; or by the rule, so that bytes that are shifted by less than 65,536 places differ
 
@@ -53,9 +50,6 @@ module _ (f : ℕ → ℕ) (ws : List ℕ) where
   abbrev pub filling : ℕ → List ℕ
   filling i = placed (by_place f (length ws)) ws 0 i
 
-  pub fill_length : (i : ℕ) {vs : List ℕ} → vs ≡ filling i → length vs ≡ length ws
-  fill_length i e = placed_length (by_place f (length ws)) ws 0 i e
-
   pub fill_more : (i : ℕ) {vs : List ℕ} {b : ℕ} → i < length ws → vs ≡ filling i → b ≡ f i → slice_set vs i b ≡ filling (i + 1)
   fill_more i h p q =
       let n = by_place_length f (length ws) in
@@ -91,32 +85,3 @@ put_more ws from i v h p =
     ∙ ap (λ (j : ℕ). set (sets ws from l) (from + j) (v % 256)) (sym n)
     ∙ sym (sets_append l (v % 256 ∷ []) ws from)
     ∙ ap (λ (j : ℕ). sets ws from (last_bytes j v)) e
-
--- a place beyond the end is the end
-module _ (l : List ℕ) (n : ℕ) where
-  take_within : take (min n (length l)) l ≡ take n l
-  take_within = go (dec_lt n (length l))
-    where
-      go : Dec (n < length l) → take (min n (length l)) l ≡ take n l
-      go (yes h) = let e : min n (length l) ≡ n = omega arith in ap (λ (k : ℕ). take k l) e
-      go (no h) =
-          let e : min n (length l) ≡ length l = omega arith in
-          ap (λ (k : ℕ). take k l) e ∙ take_all (length l) l (omega arith) ∙ sym (take_all n l (omega arith))
-
-  drop_within : drop (min n (length l)) l ≡ drop n l
-  drop_within = go (dec_lt n (length l))
-    where
-      go : Dec (n < length l) → drop (min n (length l)) l ≡ drop n l
-      go (yes h) = let e : min n (length l) ≡ n = omega arith in ap (λ (k : ℕ). drop k l) e
-      go (no h) =
-          let e : min n (length l) ≡ length l = omega arith in
-          let k : length l ≤ n = omega arith in
-          ap (λ (i : ℕ). drop i l) e ∙ drop-length l ∙ sym (drop_of_length-le l k)
-
--- what is lent ends at such places
-pub data_laid_lem : (t n m : ℕ) (memory wire : List ℕ) (s : Sender) (k j : ℕ) {r : Laid} {front : List ℕ} → k ≡ min n (length memory) → j ≡ min m (length wire)
-    → record { answer = r; out = front } ≡ data_chunk t (take k memory) (take j wire) s → front ++ drop j wire ≡ data_in t n m memory wire s
-data_laid_lem t n m memory wire s k j p q e =
-    ap (λ (o : Output). o.out ++ drop j wire) e
-    ∙ (λ i. (data_chunk t (take (p i) memory) (take (q i) wire) s).out ++ drop (q i) wire)
-    ∙ (λ i. (data_chunk t (take_within memory n i) (take_within wire m i) s).out ++ drop_within wire m i)

@@ -5,7 +5,8 @@ ghost use Rattle.std.proofs.lemmas.List.Edits.{sets};
 ghost use Rattle.sender_head.specs.Whole.{sender_of};
 ghost use Rattle.answers.specs.Arrays.{byte_for, filled, last_bytes, data_in};
 
-use model::{Laid, Sacked};
+use limits::Refusal;
+use lines::Page;
 use sender_head::Head;
 
 // ---- what fills them
@@ -15,29 +16,20 @@ fn byte_for(ruled: bool, seed: u8, i: usize) -> u8
     ensures { result ≡ byte_for ruled seed i }
 {
     if ruled {
-        return ((seed as usize + i % 256 + i / 256 % 256) % 256) as u8;
+        ((seed as usize + i % 256 + i / 256 % 256) % 256) as u8
+    } else {
+        seed
     }
-    seed
 }
 
 // Every byte.
-pub fn fill(
-    rt: &impl Print,
-    bytes: &mut [u8],
-    out: &mut [u8],
-    at: usize,
-    ruled: bool,
-    seed: u8,
-) -> usize
+pub fn fill(page: &mut Page<impl Print>, bytes: &mut [u8], ruled: bool, seed: u8)
     ensures { bytes.new ≡ filled ruled seed (length bytes.old) }
 {
-    let n = bytes.len();
-    let mut i = 0;
-    while i < n {
-        bytes[i] = byte_for(ruled, seed, i);
-        i += 1;
+    for (i, byte) in bytes.iter_mut().enumerate() {
+        *byte = byte_for(ruled, seed, i);
     }
-    lines::done(rt, out, at)
+    println!(page; "ok");
 }
 
 // What is behind the end is left out.
@@ -45,129 +37,87 @@ fn put_byte(bytes: &mut [u8], from: u64, i: u64, byte: u8)
     ensures { bytes.new ≡ slice_set bytes.old (from + i) byte }
 {
     let n = bytes.len() as u64;
-    if n <= from {
-        return;
+    if i < n.saturating_sub(from) {
+        bytes[(from + i) as usize] = byte;
     }
-    if n - from <= i {
-        return;
-    }
-    bytes[(from + i) as usize] = byte;
 }
 
 // The last bytes of a number, most significant first.
-pub fn put(
-    rt: &impl Print,
-    bytes: &mut [u8],
-    out: &mut [u8],
-    at: usize,
-    from: u64,
-    width: u64,
-    value: u64,
-) -> usize
+pub fn put(page: &mut Page<impl Print>, bytes: &mut [u8], from: u64, width: u64, value: u64)
     ensures { bytes.new ≡ sets bytes.old from (last_bytes width value) }
 {
     let mut rest = value;
-    let mut i = width;
-    while i > 0 {
-        i -= 1;
+    for i in (0..width).rev() {
         put_byte(bytes, from, i, (rest % 256) as u8);
         rest /= 256;
     }
-    lines::done(rt, out, at)
+    println!(page; "ok");
 }
 
 // ---- what shows them
 
-fn wide(byte: u8) -> u64 {
-    byte as u64
-}
-
 // Two digits a byte, and a dash where there is none.
-fn hexadecimal(rt: &impl Print, out: &mut [u8], at: usize, bytes: &[u8]) -> usize {
-    if bytes.len() == 0 {
-        return lines::byte(rt, out, at, b'-');
+fn hexadecimal(page: &mut Page<impl Print>, bytes: &[u8]) {
+    if bytes.is_empty() {
+        print!(page; "-");
     }
-    let mut place = at;
-    let mut i = 0;
-    while i < bytes.len() {
-        place = lines::hexadecimal(rt, out, place, wide(bytes[i]), 2);
-        i += 1;
+    for byte in bytes {
+        print!(page; "{byte:02x}");
     }
-    place
+    println!(page; "");
 }
 
 // A place within an array; one beyond its end is its end.
 pub fn place_in(bytes: &[u8], wanted: u64) -> usize
     ensures { result ≡ min wanted (length bytes.now) }
 {
-    let n = bytes.len();
-    if wanted < n as u64 {
-        return wanted as usize;
-    }
-    n
+    wanted.min(bytes.len() as u64) as usize
 }
 
 // So many bytes from a place on, as many as there are.
-pub fn look(
-    rt: &impl Print,
-    bytes: &[u8],
-    out: &mut [u8],
-    at: usize,
-    from: u64,
-    count: u64,
-) -> usize {
-    let start = place_in(bytes, from);
-    let rest = &bytes[start..];
-    let end = place_in(rest, count);
-    let behind = hexadecimal(rt, out, at, &rest[0..end]);
-    lines::line(rt, out, behind)
+pub fn look(page: &mut Page<impl Print>, bytes: &[u8], from: u64, count: u64) {
+    let rest = &bytes[place_in(bytes, from)..];
+    hexadecimal(page, &rest[..place_in(rest, count)]);
 }
 
 // ---- a SACK
 
-pub fn sacked(rt: &impl Print, out: &mut [u8], at: usize, answer: Sacked) -> usize {
+pub fn sacked(page: &mut Page<impl Print>, answer: Result<Option<u64>, Refusal>) {
     match answer {
-        Sacked::Released(bytes) => {
-            let values = [bytes];
-            lines::numbers(rt, out, at, b"bytes=\n", &values)
-        }
-        Sacked::Stale => lines::text(rt, out, at, b"stale\n"),
-        Sacked::Refused(n) => lines::refusal(rt, out, at, n),
+        Ok(Some(bytes)) => println!(page; "bytes={bytes}"),
+        Ok(None) => println!(page; "stale"),
+        Err(refusal) => println!(page; "R {}", refusal.number()),
     }
 }
 
 // ---- a chunk that is written
 
 // How many bytes were written; these, and up to eight behind them, which must have stayed.
-fn laid_out(rt: &impl Print, bytes: &[u8], out: &mut [u8], at: usize, answer: Laid) -> usize {
+fn laid_out(page: &mut Page<impl Print>, bytes: &[u8], answer: Result<usize, Refusal>) {
     match answer {
-        Laid::Bytes(count) => {
-            let values = [count as u64];
-            let place = lines::numbers(rt, out, at, b"n= ", &values);
-            let written = place_in(bytes, count as u64) as u64;
-            look(rt, bytes, out, place, 0, written + 8)
+        Ok(count) => {
+            print!(page; "n={count} ");
+            look(page, bytes, 0, place_in(bytes, count as u64) as u64 + 8);
         }
-        Laid::Refused(n) => lines::refusal(rt, out, at, n),
+        Err(refusal) => println!(page; "R {}", refusal.number()),
     }
 }
 
 // The DATA chunk of a TSN, in the first `room` bytes of the wire; its payload is in the first `lent` of the memory.
 pub fn data(
-    rt: &impl Print,
-    h: Head,
+    page: &mut Page<impl Print>,
+    h: &Head,
     cells: &[u64],
     wire: &mut [u8],
     memory: &[u8],
-    out: &mut [u8],
-    at: usize,
     lent: u64,
     tsn: u32,
     room: u64,
-) -> usize
-    ensures { wire.new ≡ data_in tsn lent room memory.now wire.old (sender_of h cells.now) }
+)
+    ensures { wire.new ≡ data_in tsn lent room memory.now wire.old (sender_of h.now cells.now) }
 {
     let k = place_in(memory, lent);
     let n = place_in(wire, room);
     let answer = sender_asks::chunks::data_chunk(h, cells, &memory[0..k], &mut wire[0..n], tsn);
-    laid_out(rt, &wire[0..n], out, at, answer)
+    laid_out(page, &wire[0..n], answer);
 }

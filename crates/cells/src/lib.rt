@@ -17,8 +17,7 @@ pub const HIGH: u64 = 4_294_967_296;
 pub fn room(cells: &[u64]) -> usize
     ensures { result ≡ room_of cells.now }
 {
-    let slots = cells.len() / 8;
-    if slots < LIMIT { slots } else { LIMIT }
+    (cells.len() / 8).min(LIMIT)
 }
 
 // The first seven words of slot i become these; the eighth stays.
@@ -42,7 +41,7 @@ pub fn write(cells: &mut [u64], i: usize, a: u64, b: u64, c: u64, d: u64, e: u64
 pub fn bit(flag: bool) -> u64
     ensures { (result ≡ bit_of flag) × (result ≤ 1) }
 {
-    if flag { 1 } else { 0 }
+    flag as u64
 }
 
 // Four flags in four bits.

@@ -1,11 +1,10 @@
 -- A chunk when some words of its slot are written: the words say what the model's changes of a chunk do.
-use Rattle.std.specs.Prelude.{◌≡◌, Bool, not, ◌&&◌, ℕ, ◌+◌, ◌-◌, ◌*◌, ◌/◌, ◌%◌, ◌≤◌, ◌<◌, length, set, leb, eqb}
+use Rattle.std.specs.Prelude.{◌≡◌, Bool, not, ◌&&◌, ℕ, ◌+◌, ◌-◌, ◌*◌, ◌/◌, ◌%◌, ◌≤◌, ◌<◌, length, set, leb, eqb, Some}
 use Rattle.std.proofs.Math.Path.{refl, sym, ap}
 use Rattle.std.proofs.Common.{◌∙◌, add-zero, arith, le-leb, eq-eqb, ne_eqb}
 use Rattle.std.proofs.Math.Bool.{true, false}
 use mathlib.Core.List.{List}
 use Rattle.std.proofs.Math.ListN.{get_or}
-use Rattle.limits.specs.declared.Moment.TheVariants.{At}
 use Rattle.model.specs.declared.Chunk.{Chunk}
 use Rattle.model.specs.Lists.{when◌then◌else◌, adjust}
 use Rattle.model.specs.State.{is_of}
@@ -40,7 +39,7 @@ lowered_other id c e =
 
 pub started_not : (time k : ℕ) (c : Chunk) → (leb k c.message.number && has_lifetime c.message) ≡ false → started time k c ≡ c
 started_not time k c e =
-    ap (λ (b : Bool). with_message (when b then renewed c.message.ssn (At (time + c.message.reliability.value)) c.message else c.message) c) e
+    ap (λ (b : Bool). with_message (when b then renewed c.message.ssn (Some (time + c.message.reliability.value)) c.message else c.message) c) e
 
 -- and where it has one
 lifetime : (k number kind protocol : ℕ) → k ≤ number → kind ≡ 2 → (protocol ≡ 50 → ⊥) → (leb k number && (eqb kind 2 && not (eqb protocol 50))) ≡ true
@@ -97,7 +96,7 @@ module _ (w : List ℕ) (h : length w ≡ 8) where
       let c = chunk_in w in
       ap (λ (r : List ℕ). chunk_in (set (set r 1 (time + high_of (get_or w 4 0))) 6 m)) (eight w h)
       ∙ ap (among (time + high_of (get_or w 4 0)) (low_of (get_or w 5 0)) (high_of (get_or w 5 0))) e
-      ∙ sym (ap (λ (b : Bool). with_message (when b then renewed c.message.ssn (At (time + c.message.reliability.value)) c.message else c.message) c) q)
+      ∙ sym (ap (λ (b : Bool). with_message (when b then renewed c.message.ssn (Some (time + c.message.reliability.value)) c.message else c.message) c) q)
 
 -- ---- a slot that is not there
 

@@ -1,26 +1,29 @@
 -- The chunk that a slot's words are. Shut: who moves words from slot to slot goes by the chunk.
-use Rattle.std.specs.Prelude.{◌≡◌, refl, List, [], ◌∷◌, ℕ, ◌+◌, set}
+use Rattle.std.specs.Prelude.{◌≡◌, refl, List, [], ◌∷◌, ℕ, ◌+◌, set, Some, None, Option}
 use Rattle.std.proofs.Common.{◌∙◌}
 use Rattle.std.proofs.Math.Path.{ap}
 use native.Mathlib.Omega.{arith}
 use Rattle.model.specs.declared.Chunk.{Chunk}
-use Rattle.model.specs.declared.Found.{Found}
 use Rattle.model.specs.Rings.{sent_at}
 use Rattle.cells.specs.Slots.{written, slots_written}
 use Rattle.cells.specs.Words.{low_of, high_of, bit_at}
 use Rattle.chunk_slot.specs.declared.Words.{Words}
-use Rattle.chunk_slot.specs.declared.FoundWords.{FoundWords}
 use Rattle.chunk_slot.specs.Marks.{Marks, marks_in}
 use Rattle.chunk_slot.specs.Remarks.{with_since}
 use Rattle.chunk_slot.specs.Chunks.{chunk_from, chunk_of, chunk_in, chunks}
+use Rattle.model.specs.Answers.{Found}
 
 unfoldable pub chunk_for : Words → Chunk
 chunk_for w = chunk_of w.number w.deadline w.since w.offset w.types w.sizes w.marks
 
--- or that there is none
+-- the words of a slot, where there are any
+abbrev pub FoundWords : Type 0
+FoundWords = Option Words
+
+-- their chunk, or that there is none
 abbrev pub found_for : FoundWords → Found
-found_for (FoundWords.One w) = Found.One (chunk_for w)
-found_for FoundWords.Nothing = Found.Nothing
+found_for (Some w) = Some (chunk_for w)
+found_for None = None
 
 -- ---- in part
 

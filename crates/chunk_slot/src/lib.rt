@@ -6,13 +6,11 @@ pub mod marks;
 pub mod parts;
 
 ghost use Rattle.std.specs.Prelude.{◌≡◌, ◌≤◌, get_or, set};
-ghost use Rattle.limits.specs.Moments.{present, time_of, moment_of};
 ghost use Rattle.model.specs.Rings.{sent_at};
 ghost use Rattle.chunk_slot.specs.Chunks.{Packed, chunks, blank_chunk};
 ghost use Rattle.chunk_slot.specs.Meaning.{chunk_for};
 
 use cells::HIGH;
-use limits::Moment;
 use marks::{ABANDONED, ACKED, BEGINNING, ENDING, KIND, RETRANSMIT, SENT, SSN, TIMED, UNORDERED};
 use model::{Chunk, Message, Reliability};
 
@@ -28,42 +26,7 @@ pub struct Words {
     pub marks: u64,
 }
 
-// Where there may be none.
-#[derive(Clone, Copy)]
-pub enum FoundWords {
-    One(Words),
-    Nothing,
-}
-
 // ---- words
-
-fn is_set(moment: Moment) -> bool
-    ensures { result ≡ present moment }
-{
-    match moment {
-        Moment::Absent => false,
-        Moment::At(_) => true,
-    }
-}
-
-fn time_of(moment: Moment) -> u64
-    ensures { result ≡ time_of moment }
-{
-    match moment {
-        Moment::Absent => 0,
-        Moment::At(time) => time,
-    }
-}
-
-fn moment_of(set: bool, time: u64) -> Moment
-    ensures { result ≡ moment_of set time }
-{
-    if set {
-        Moment::At(time)
-    } else {
-        Moment::Absent
-    }
-}
 
 // The small fields in a word; `pending` and `flying` are four flags each.
 fn marks_of(stream: u16, ssn: u16, kind: u8, pending: u64, flying: u64) -> u64
@@ -79,21 +42,20 @@ pub fn pack(chunk: Chunk) -> Words
 {
     let message = chunk.message;
     let reliability = message.reliability;
-    let deadline = message.deadline;
-    let since = chunk.since;
-    let due = time_of(deadline);
-    let sent = time_of(since);
     let types = cells::pair(message.protocol, reliability.value);
     let sizes = cells::pair(chunk.length, chunk.nsent);
-    let timed = is_set(deadline);
-    let flown = is_set(since);
     let pending = cells::flags(
         message.unordered,
         chunk.beginning,
         chunk.ending,
         chunk.acked,
     );
-    let flying = cells::flags(chunk.abandoned, chunk.retransmit, timed, flown);
+    let flying = cells::flags(
+        chunk.abandoned,
+        chunk.retransmit,
+        message.deadline.is_some(),
+        chunk.since.is_some(),
+    );
     let marks = marks_of(
         message.stream,
         message.ssn,
@@ -103,12 +65,12 @@ pub fn pack(chunk: Chunk) -> Words
     );
     Words {
         number: message.number,
-        deadline: due,
-        since: sent,
+        deadline: message.deadline.unwrap_or(0),
+        since: chunk.since.unwrap_or(0),
         offset: chunk.offset,
-        types: types,
-        sizes: sizes,
-        marks: marks,
+        types,
+        sizes,
+        marks,
     }
 }
 
@@ -116,11 +78,12 @@ pub fn pack(chunk: Chunk) -> Words
 pub fn unpack(words: Words) -> Chunk
     ensures { result ≡ chunk_for words }
 {
-    let types = words.types;
-    let sizes = words.sizes;
-    let marks = words.marks;
-    let due = moment_of(marks / TIMED % 2 == 1, words.deadline);
-    let sent = moment_of(marks / SENT % 2 == 1, words.since);
+    let Words {
+        types,
+        sizes,
+        marks,
+        ..
+    } = words;
     let reliability = Reliability {
         kind: (marks / KIND % 256) as u8,
         value: (types / HIGH) as u32,
@@ -131,16 +94,16 @@ pub fn unpack(words: Words) -> Chunk
         unordered: marks / UNORDERED % 2 == 1,
         protocol: (types % HIGH) as u32,
         number: words.number,
-        reliability: reliability,
-        deadline: due,
+        reliability,
+        deadline: (marks / TIMED % 2 == 1).then_some(words.deadline),
     };
     Chunk {
-        message: message,
+        message,
         beginning: marks / BEGINNING % 2 == 1,
         ending: marks / ENDING % 2 == 1,
         offset: words.offset,
         length: (sizes % HIGH) as u32,
-        since: sent,
+        since: (marks / SENT % 2 == 1).then_some(words.since),
         nsent: (sizes / HIGH) as u32,
         acked: marks / ACKED % 2 == 1,
         abandoned: marks / ABANDONED % 2 == 1,
@@ -168,16 +131,11 @@ pub fn is_ending(words: Words) -> bool
 pub fn stamped(words: Words, clock: u64) -> Words
     ensures { chunk_for result ≡ sent_at clock (chunk_for words) }
 {
-    let marks = marks::with_since(words.marks);
-    let sizes = words.sizes % HIGH + HIGH;
     Words {
-        number: words.number,
-        deadline: words.deadline,
         since: clock,
-        offset: words.offset,
-        types: words.types,
-        sizes: sizes,
-        marks: marks,
+        sizes: words.sizes % HIGH + HIGH,
+        marks: marks::with_since(words.marks),
+        ..words
     }
 }
 
@@ -231,6 +189,5 @@ pub fn write(cells: &mut [u64], i: usize, words: Words)
 pub fn load(cells: &[u64], i: usize) -> Chunk
     ensures { result ≡ get_or (chunks cells.now) i blank_chunk }
 {
-    let words = read(cells, i);
-    unpack(words)
+    unpack(read(cells, i))
 }

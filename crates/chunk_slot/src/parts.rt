@@ -108,13 +108,6 @@ pub fn lower_at(cells: &mut [u64], i: usize, stream: u16)
     cells[at] = lower;
 }
 
-// The clock, or its limit where it is beyond.
-fn within(clock: u64) -> u64
-    ensures { result ≡ min clock clock_max }
-{
-    if clock < CLOCK_MAX { clock } else { CLOCK_MAX }
-}
-
 // The lifetime of slot i starts, if its message has one and is not yet seen. A clock beyond its limit is taken as the limit.
 pub fn start_at(cells: &mut [u64], i: usize, clock: u64, unstarted: u64)
     ensures { chunks cells.new ≡ adjust (started (min clock clock_max) unstarted) i (chunks cells.old) }
@@ -134,7 +127,7 @@ pub fn start_at(cells: &mut [u64], i: usize, clock: u64, unstarted: u64)
     if types % HIGH == 50 {
         return;
     }
-    let deadline = within(clock) + types / HIGH;
+    let deadline = clock.min(CLOCK_MAX) + types / HIGH;
     let timed = super::marks::with_deadline(marks);
     cells[at + 1] = deadline;
     cells[at + 6] = timed;

@@ -5,35 +5,46 @@ use mathlib.Core.List.{List, ◌++◌}
 use Prim.Native.Nat.{ℕ}
 use lib.ListN.{length}
 use lib.Seq.{take_at, drop_at}
-use Rattle.limits.specs.declared.Moment.{Moment}
-use Rattle.model.specs.declared.Abandoned.{Abandoned}
-use Rattle.model.specs.declared.Amount.{Amount}
 use Rattle.model.specs.declared.Chunk.{Chunk}
-use Rattle.model.specs.declared.Counted.{Counted}
-use Rattle.model.specs.declared.Done.{Done}
-use Rattle.model.specs.declared.Earliest.{Earliest}
-use Rattle.model.specs.declared.Expired.{Expired}
-use Rattle.model.specs.declared.Found.{Found}
-use Rattle.model.specs.declared.Released.{Released}
-use Rattle.model.specs.declared.Sacked.{Sacked}
-use Rattle.model.specs.declared.Sent.{Sent}
-use Rattle.model.specs.declared.TailExpired.{TailExpired}
-use Rattle.model.specs.declared.Written.{Written}
 use Rattle.model.specs.Records.{make_message, make_chunk}
-use Rattle.model.specs.Rings.{tsns_are, refused}
 use Rattle.model.specs.Calls.{Answer, to_do, to_write, to_release, to_send, to_expire, to_expire_tail, to_abandon, to_find, to_seek, to_measure, to_count, to_list, number, yes_no}
 use Rattle.model.specs.Requests.{answered, sacked}
 use Rattle.cells.specs.Words.{bit_of}
-use Rattle.coded_calls.specs.Words.{present, time, chunk_words, words}
-use Rattle.coded_calls.specs.Back.{flag, moment, chunk_from, Read, plain, read_back, told_reply, WordsTell, WordsAreTold}
+use Rattle.coded_calls.specs.Words.{is_there, chunk_words, words}
+use Rattle.coded_calls.specs.Back.{flag, moment, refusal_from, back, chunk_from, Read, plain, read_back, told_reply, WordsTell, WordsAreTold}
+use Rattle.std.specs.Prelude.{Some, None, Ok, Err}
+use Rattle.limits.specs.Moments.{Moment, time_of}
+use Rattle.limits.specs.Refusals.{refusal_number}
+use Rattle.limits.specs.declared.Refusal.{Refusal}
+use Rattle.limits.specs.declared.Refusal.TheVariants.{BeyondLimit, BadBounds, NotOpen, AlreadyOpen, StreamsFull, MessageLong, BufferFull, RingFull, NumbersSpent, FlightFull, ListShort, CountFull, BadSack, BadBlock, NoEntry, PayloadOutside, OutputShort}
+use Rattle.model.specs.Answers.{expired_message}
 
 flag_back : (b : Bool) → flag (bit_of b) ≡ b
 flag_back true = refl
 flag_back false = refl
 
-moment_back : (m : Moment) → moment (present m) (time m) ≡ m
-moment_back Moment.Absent = refl
-moment_back (Moment.At t) = refl
+moment_back : (m : Moment) → moment (is_there m) (time_of m) ≡ m
+moment_back None = refl
+moment_back (Some t) = refl
+
+refusal_back : (r : Refusal) → refusal_from (refusal_number r) ≡ r
+refusal_back BeyondLimit = refl
+refusal_back BadBounds = refl
+refusal_back NotOpen = refl
+refusal_back AlreadyOpen = refl
+refusal_back StreamsFull = refl
+refusal_back MessageLong = refl
+refusal_back BufferFull = refl
+refusal_back RingFull = refl
+refusal_back NumbersSpent = refl
+refusal_back FlightFull = refl
+refusal_back ListShort = refl
+refusal_back CountFull = refl
+refusal_back BadSack = refl
+refusal_back BadBlock = refl
+refusal_back NoEntry = refl
+refusal_back PayloadOutside = refl
+refusal_back OutputShort = refl
 
 chunk_back : (c : Chunk) (us : List ℕ) → chunk_from (chunk_words c us) ≡ c
 chunk_back c us = λ i.
@@ -43,41 +54,41 @@ chunk_back c us = λ i.
     (flag_back c.acked i) (flag_back c.abandoned i) (flag_back c.retransmit i)
 
 answer_told : (a : Answer) (us : List ℕ) → read_back (words a ++ us) ≡ plain a us
-answer_told (to_do (Done.Refused n)) us = refl
-answer_told (to_do Done.Done) us = refl
-answer_told (to_write (Written.Refused n)) us = refl
-answer_told (to_write (Written.Accepted high)) us = ap (λ (b : Bool). plain (to_write (Written.Accepted b)) us) (flag_back high)
-answer_told (to_release (Released.Refused n)) us = refl
-answer_told (to_release (Released.Told low)) us = ap (λ (b : Bool). plain (to_release (Released.Told b)) us) (flag_back low)
-answer_told (to_send (Sent.Refused n)) us = refl
-answer_told (to_send (Sent.Yielded t c)) us = ap (λ (d : Chunk). plain (to_send (Sent.Yielded t d)) us) (chunk_back c us)
-answer_told (to_send Sent.Nothing) us = refl
-answer_told (to_expire (Expired.Refused n)) us = refl
-answer_told (to_expire (Expired.Message id u b)) us = ap (λ (f : Bool). plain (to_expire (Expired.Message id f b)) us) (flag_back u)
-answer_told (to_expire Expired.Nothing) us = refl
-answer_told (to_expire_tail (TailExpired.Refused n)) us = refl
-answer_told (to_expire_tail (TailExpired.Message id n b)) us = refl
-answer_told (to_expire_tail TailExpired.Nothing) us = refl
-answer_told (to_abandon Abandoned.Nothing) us = refl
-answer_told (to_abandon (Abandoned.Message id b)) us = refl
-answer_told (to_find Found.Nothing) us = refl
-answer_told (to_find (Found.One c)) us = ap (λ (d : Chunk). plain (to_find (Found.One d)) us) (chunk_back c us)
-answer_told (to_seek Earliest.Nothing) us = refl
-answer_told (to_seek (Earliest.Tsn t)) us = refl
-answer_told (to_measure (Amount.Refused n)) us = refl
-answer_told (to_measure (Amount.Is x)) us = refl
-answer_told (to_count (Counted.Refused n)) us = refl
-answer_told (to_count (Counted.Are s)) us = refl
-answer_told (to_list (refused n)) us = refl
-answer_told (to_list (tsns_are l)) us = λ i. plain (to_list (tsns_are (take_at l us (length l) refl i))) (drop_at l us (length l) refl i)
+answer_told (to_do (Err r)) us = ap (λ (q : Refusal). plain (to_do (Err q)) us) (refusal_back r)
+answer_told (to_do (Ok _)) us = refl
+answer_told (to_write (Err r)) us = ap (λ (q : Refusal). plain (to_write (Err q)) us) (refusal_back r)
+answer_told (to_write (Ok high)) us = ap (λ (b : Bool). plain (to_write (Ok b)) us) (flag_back high)
+answer_told (to_release (Err r)) us = ap (λ (q : Refusal). plain (to_release (Err q)) us) (refusal_back r)
+answer_told (to_release (Ok low)) us = ap (λ (b : Bool). plain (to_release (Ok b)) us) (flag_back low)
+answer_told (to_send (Err r)) us = ap (λ (q : Refusal). plain (to_send (Err q)) us) (refusal_back r)
+answer_told (to_send (Ok (Some (t, c)))) us = ap (λ (d : Chunk). plain (to_send (Ok (Some (t, d)))) us) (chunk_back c us)
+answer_told (to_send (Ok None)) us = refl
+answer_told (to_expire (Err r)) us = ap (λ (q : Refusal). plain (to_expire (Err q)) us) (refusal_back r)
+answer_told (to_expire (Ok (Some x))) us = ap (λ (f : Bool). plain (to_expire (expired_message x.stream f x.bytes)) us) (flag_back x.unordered)
+answer_told (to_expire (Ok None)) us = refl
+answer_told (to_expire_tail (Err r)) us = ap (λ (q : Refusal). plain (to_expire_tail (Err q)) us) (refusal_back r)
+answer_told (to_expire_tail (Ok (Some x))) us = refl
+answer_told (to_expire_tail (Ok None)) us = refl
+answer_told (to_abandon None) us = refl
+answer_told (to_abandon (Some x)) us = refl
+answer_told (to_find None) us = refl
+answer_told (to_find (Some c)) us = ap (λ (d : Chunk). plain (to_find (Some d)) us) (chunk_back c us)
+answer_told (to_seek None) us = refl
+answer_told (to_seek (Some t)) us = refl
+answer_told (to_measure (Err r)) us = ap (λ (q : Refusal). plain (to_measure (Err q)) us) (refusal_back r)
+answer_told (to_measure (Ok x)) us = refl
+answer_told (to_count (Err r)) us = ap (λ (q : Refusal). plain (to_count (Err q)) us) (refusal_back r)
+answer_told (to_count (Ok s)) us = refl
+answer_told (to_list (Err r)) us = ap (λ (q : Refusal). plain (to_list (Err q)) us) (refusal_back r)
+answer_told (to_list (Ok l)) us = λ i. plain (to_list (Ok (take_at l us (length l) refl i))) (drop_at l us (length l) refl i)
 answer_told (number x) us = refl
 answer_told (yes_no b) us = ap (λ (f : Bool). plain (yes_no f) us) (flag_back b)
 
 pub words_tell : WordsTell
 words_tell (answered a) us = answer_told a us
-words_tell (sacked (Sacked.Refused n)) us = refl
-words_tell (sacked (Sacked.Released b)) us = refl
-words_tell (sacked Sacked.Stale) us = refl
+words_tell (sacked (Err r)) us = ap (λ (q : Refusal). back (sacked (Err q)) us) (refusal_back r)
+words_tell (sacked (Ok (Some b))) us = refl
+words_tell (sacked (Ok None)) us = refl
 
 pub words_are_told : WordsAreTold
 words_are_told r us = ap (λ (x : Read). told_reply x.reply) (words_tell r us)

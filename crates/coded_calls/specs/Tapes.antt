@@ -2,7 +2,13 @@
 use Rattle.std.specs.Prelude.{◌≡◌, refl, List, [], ◌∷◌, ◌++◌, ℕ, suc, ◌+◌, ◌≤◌, ◌<◌, length, get_or, set, drop}
 use Rattle.std.proofs.Common.{sym, ap, ◌∙◌, arith, length-set, drop-cons}
 use Rattle.std.proofs.lemmas.List.Edits.{sets}
-use Rattle.std.proofs.Math.Seq.{set_out, drop-length}
+use Rattle.std.proofs.Math.Seq.{set_out}
+use Rattle.coded_calls.specs.declared.tape.Tape.{Tape}
+
+-- The same slice stays lent, and what is written from the new place on stands behind what a call wrote: from the old place on there stands
+-- `f us` where `us` comes later.
+abbrev pub Puts : (old new : Tape) → (f : List ℕ → List ℕ) → Type 0
+Puts old new f = (new.words.ghost_name ≡ old.words.ghost_name) × ((us : List ℕ) → sets new.words.now new.at us ≡ sets old.words.now old.at (f us))
 
 -- past the end nothing is written
 pub sets_past : (us ws : List ℕ) (at : ℕ) → length ws ≤ at → sets ws at us ≡ ws
@@ -16,17 +22,10 @@ sets_past (u ∷ us) ws at h =
 pub put_past : (ws : List ℕ) (at word : ℕ) → length ws ≤ at → (us : List ℕ) → sets ws at us ≡ sets ws at (word ∷ us)
 put_past ws at word h us = sets_past us ws at h ∙ sym (sets_past (word ∷ us) ws at h)
 
-pub put_in : (ws : List ℕ) (at word : ℕ) (us : List ℕ) → sets (set ws at word) (at + 1) us ≡ sets ws at (word ∷ us)
-put_in ws at word us = let e : at + 1 ≡ suc at = omega arith in ap (λ (n : ℕ). sets (set ws at word) n us) e
-
 -- one more number of a list: `vs` and `next` are the tape and the place behind it
-pub put_more : (ws vs : List ℕ) (at next i : ℕ) (list : List ℕ) → i < length list → ((us : List ℕ) → sets vs next us ≡ sets ws at (get_or list i 0 ∷ us))
+pub put_more : (ws vs : List ℕ) (at next i u : ℕ) (list : List ℕ) → i < length list → u ≡ get_or list i 0 → ((us : List ℕ) → sets vs next us ≡ sets ws at (u ∷ us))
     → (us : List ℕ) → sets vs next (drop (i + 1) list ++ us) ≡ sets ws at (drop i list ++ us)
-put_more ws vs at next i list h e us =
+put_more ws vs at next i u list h q e us =
     let n : i + 1 ≡ suc i = omega arith in
-    ap (λ (k : ℕ). sets vs next (drop k list ++ us)) n ∙ e (drop (suc i) list ++ us) ∙ ap (λ (l : List ℕ). sets ws at (l ++ us)) (sym (drop-cons list i 0 h))
-
--- behind the last nothing is left
-pub put_all : (ws vs : List ℕ) (at place i : ℕ) (list : List ℕ) → i ≡ length list → ((us : List ℕ) → sets vs place (drop i list ++ us) ≡ sets ws at (list ++ us))
-    → (us : List ℕ) → sets vs place us ≡ sets ws at (list ++ us)
-put_all ws vs at place i list h e us = ap (λ (l : List ℕ). sets vs place (l ++ us)) (sym (ap (λ (k : ℕ). drop k list) h ∙ drop-length list)) ∙ e us
+    (λ j. sets vs next (drop (n j) list ++ us)) ∙ e (drop (suc i) list ++ us) ∙ (λ j. sets ws at (q j ∷ drop (suc i) list ++ us))
+    ∙ ap (λ (l : List ℕ). sets ws at (l ++ us)) (sym (drop-cons list i 0 h))

@@ -1,249 +1,198 @@
 // Answers as words, one behind the other on a tape. specs/Words.antt has the table.
-ghost use Rattle.std.specs.Prelude.{◌≡◌, List, ◌++◌, ℕ};
-ghost use Rattle.std.proofs.lemmas.List.Edits.{sets};
-ghost use Rattle.model.specs.Calls.{to_do, to_write, to_release, to_send, to_expire, to_expire_tail, to_abandon, to_find, to_seek, to_measure, to_count};
+ghost use Rattle.std.specs.Prelude.{◌++◌};
+ghost use Rattle.limits.specs.Refusals.{refusal_number};
+ghost use Rattle.model.specs.Calls.{to_do, to_send, to_expire, to_expire_tail, to_abandon, to_find, to_seek, to_measure, to_count};
 ghost use Rattle.model.specs.Requests.{sacked};
 ghost use Rattle.calls.specs.Meant.{said};
-ghost use Rattle.coded_calls.specs.Words.{present, time, message_words, chunk_words, words, reply_words};
+ghost use Rattle.coded_calls.specs.Tapes.{Puts};
+ghost use Rattle.coded_calls.specs.Words.{front, message_words, chunk_words, crossed_words, words, reply_words};
 
+use super::tape::Tape;
 use calls::Answer;
-use limits::Moment;
-use model::{
-    Abandoned, Amount, Chunk, Done, Earliest, Expired, Found, Message, Released, Sacked, Sent,
-    TailExpired, Written,
-};
-
-// Whether there is a moment.
-fn present(m: Moment) -> u64
-    ensures { result ≡ present m }
-{
-    match m {
-        Moment::Absent => 0,
-        Moment::At(_) => 1,
-    }
-}
-
-// When, or 0.
-fn time(m: Moment) -> u64
-    ensures { result ≡ time m }
-{
-    match m {
-        Moment::Absent => 0,
-        Moment::At(when) => when,
-    }
-}
+use limits::Refusal;
+use model::{AbandonedMessage, Chunk, ExpiredMessage, ExpiredTail, Message, Statistics};
 
 // What the fragments of a message share.
-fn put_message(tape: &mut [u64], at: usize, message: Message) -> usize
-    ensures { (us : List ℕ) → sets tape.new result us ≡ sets tape.old at (message_words message us) }
+fn put_message(tape: &mut Tape, message: Message)
+    ensures { Puts tape.old tape.new (message_words message) }
 {
-    let deadline = message.deadline;
-    let second = super::tape::put_five(
-        tape,
-        at,
+    tape.put_all(&[
         message.stream as u64,
         message.ssn as u64,
         cells::bit(message.unordered),
         message.protocol as u64,
         message.number,
-    );
-    super::tape::put_five(
-        tape,
-        second,
         message.reliability.kind as u64,
         message.reliability.value as u64,
-        present(deadline),
-        time(deadline),
+        cells::bit(message.deadline.is_some()),
+        message.deadline.unwrap_or(0),
         0,
-    )
+    ])
 }
 
-fn put_chunk(tape: &mut [u64], at: usize, chunk: Chunk) -> usize
-    ensures { (us : List ℕ) → sets tape.new result us ≡ sets tape.old at (chunk_words chunk us) }
+fn put_chunk(tape: &mut Tape, chunk: Chunk)
+    ensures { Puts tape.old tape.new (chunk_words chunk) }
 {
-    let message = chunk.message;
-    let since = chunk.since;
-    let second = put_message(tape, at, message);
-    let third = super::tape::put_five(
-        tape,
-        second,
+    put_message(tape, chunk.message);
+    tape.put_all(&[
         chunk.offset,
         chunk.length as u64,
         chunk.nsent as u64,
-        present(since),
-        time(since),
-    );
-    super::tape::put_five(
-        tape,
-        third,
+        cells::bit(chunk.since.is_some()),
+        chunk.since.unwrap_or(0),
         cells::bit(chunk.beginning),
         cells::bit(chunk.ending),
         cells::bit(chunk.acked),
         cells::bit(chunk.abandoned),
         cells::bit(chunk.retransmit),
-    )
+    ])
 }
 
-fn put_done(tape: &mut [u64], at: usize, answer: Done) -> usize
-    ensures { (us : List ℕ) → sets tape.new result us ≡ sets tape.old at (words (to_do answer) ++ us) }
+// Of any kind.
+fn put_refused(tape: &mut Tape, kind: u64, refusal: Refusal)
+    ensures { Puts tape.old tape.new (front kind 0 (refusal_number refusal) 0 0) }
+{
+    tape.put_all(&[kind, 0, refusal.number() as u64, 0, 0])
+}
+
+fn put_done(tape: &mut Tape, answer: Result<(), Refusal>)
+    ensures { Puts tape.old tape.new (λ us. words (to_do answer) ++ us) }
 {
     match answer {
-        Done::Refused(n) => super::tape::put_five(tape, at, 1, 0, n as u64, 0, 0),
-        Done::Done => super::tape::put_five(tape, at, 1, 1, 0, 0, 0),
+        Err(refusal) => put_refused(tape, 1, refusal),
+        Ok(()) => tape.put_all(&[1, 1, 0, 0, 0]),
     }
 }
 
-fn put_written(tape: &mut [u64], at: usize, answer: Written) -> usize
-    ensures { (us : List ℕ) → sets tape.new result us ≡ sets tape.old at (words (to_write answer) ++ us) }
+// Whether a write crossed the high threshold, or a release the low one.
+fn put_crossed(tape: &mut Tape, kind: u64, answer: Result<bool, Refusal>)
+    ensures { Puts tape.old tape.new (λ us. crossed_words kind answer ++ us) }
 {
     match answer {
-        Written::Refused(n) => super::tape::put_five(tape, at, 2, 0, n as u64, 0, 0),
-        Written::Accepted(high) => super::tape::put_five(tape, at, 2, 1, cells::bit(high), 0, 0),
+        Err(refusal) => put_refused(tape, kind, refusal),
+        Ok(crossed) => tape.put_all(&[kind, 1, cells::bit(crossed), 0, 0]),
     }
 }
 
-fn put_released(tape: &mut [u64], at: usize, answer: Released) -> usize
-    ensures { (us : List ℕ) → sets tape.new result us ≡ sets tape.old at (words (to_release answer) ++ us) }
+fn put_yielded(tape: &mut Tape, tsn: u32, chunk: Chunk)
+    ensures { Puts tape.old tape.new (λ us. words (to_send (Ok (Some (tsn, chunk)))) ++ us) }
+{
+    tape.put_all(&[4, 1, tsn as u64, 0, 0]);
+    put_chunk(tape, chunk)
+}
+
+fn put_sent(tape: &mut Tape, answer: Result<Option<(u32, Chunk)>, Refusal>)
+    ensures { Puts tape.old tape.new (λ us. words (to_send answer) ++ us) }
 {
     match answer {
-        Released::Refused(n) => super::tape::put_five(tape, at, 3, 0, n as u64, 0, 0),
-        Released::Told(low) => super::tape::put_five(tape, at, 3, 1, cells::bit(low), 0, 0),
+        Err(refusal) => put_refused(tape, 4, refusal),
+        Ok(Some((tsn, chunk))) => put_yielded(tape, tsn, chunk),
+        Ok(None) => tape.put_all(&[4, 2, 0, 0, 0]),
     }
 }
 
-fn put_sent(tape: &mut [u64], at: usize, answer: Sent) -> usize
-    ensures { (us : List ℕ) → sets tape.new result us ≡ sets tape.old at (words (to_send answer) ++ us) }
+fn put_expired(tape: &mut Tape, answer: Result<Option<ExpiredMessage>, Refusal>)
+    ensures { Puts tape.old tape.new (λ us. words (to_expire answer) ++ us) }
 {
     match answer {
-        Sent::Refused(n) => super::tape::put_five(tape, at, 4, 0, n as u64, 0, 0),
-        Sent::Yielded(tsn, chunk) => {
-            let behind = super::tape::put_five(tape, at, 4, 1, tsn as u64, 0, 0);
-            put_chunk(tape, behind, chunk)
-        }
-        Sent::Nothing => super::tape::put_five(tape, at, 4, 2, 0, 0, 0),
-    }
-}
-
-fn put_expired(tape: &mut [u64], at: usize, answer: Expired) -> usize
-    ensures { (us : List ℕ) → sets tape.new result us ≡ sets tape.old at (words (to_expire answer) ++ us) }
-{
-    match answer {
-        Expired::Refused(n) => super::tape::put_five(tape, at, 5, 0, n as u64, 0, 0),
-        Expired::Message {
-            stream,
-            unordered,
-            bytes,
-        } => super::tape::put_five(tape, at, 5, 1, stream as u64, cells::bit(unordered), bytes),
-        Expired::Nothing => super::tape::put_five(tape, at, 5, 2, 0, 0, 0),
-    }
-}
-
-fn put_tail_expired(tape: &mut [u64], at: usize, answer: TailExpired) -> usize
-    ensures { (us : List ℕ) → sets tape.new result us ≡ sets tape.old at (words (to_expire_tail answer) ++ us) }
-{
-    match answer {
-        TailExpired::Refused(n) => super::tape::put_five(tape, at, 6, 0, n as u64, 0, 0),
-        TailExpired::Message {
-            stream,
-            number,
-            bytes,
-        } => super::tape::put_five(tape, at, 6, 1, stream as u64, number, bytes),
-        TailExpired::Nothing => super::tape::put_five(tape, at, 6, 2, 0, 0, 0),
-    }
-}
-
-fn put_abandoned(tape: &mut [u64], at: usize, answer: Abandoned) -> usize
-    ensures { (us : List ℕ) → sets tape.new result us ≡ sets tape.old at (words (to_abandon answer) ++ us) }
-{
-    match answer {
-        Abandoned::Nothing => super::tape::put_five(tape, at, 7, 0, 0, 0, 0),
-        Abandoned::Message { stream, bytes } => super::tape::put_five(
-            tape,
-            at,
-            7,
+        Err(refusal) => put_refused(tape, 5, refusal),
+        Ok(Some(message)) => tape.put_all(&[
+            5,
             1,
-            stream as u64,
-            bytes,
-            0,
-        ),
+            message.stream as u64,
+            cells::bit(message.unordered),
+            message.bytes,
+        ]),
+        Ok(None) => tape.put_all(&[5, 2, 0, 0, 0]),
     }
 }
 
-fn put_found(tape: &mut [u64], at: usize, answer: Found) -> usize
-    ensures { (us : List ℕ) → sets tape.new result us ≡ sets tape.old at (words (to_find answer) ++ us) }
+fn put_tail_expired(tape: &mut Tape, answer: Result<Option<ExpiredTail>, Refusal>)
+    ensures { Puts tape.old tape.new (λ us. words (to_expire_tail answer) ++ us) }
 {
     match answer {
-        Found::Nothing => super::tape::put_five(tape, at, 8, 0, 0, 0, 0),
-        Found::One(chunk) => {
-            let behind = super::tape::put_five(tape, at, 8, 1, 0, 0, 0);
-            put_chunk(tape, behind, chunk)
+        Err(refusal) => put_refused(tape, 6, refusal),
+        Ok(Some(tail)) => tape.put_all(&[6, 1, tail.stream as u64, tail.number, tail.bytes]),
+        Ok(None) => tape.put_all(&[6, 2, 0, 0, 0]),
+    }
+}
+
+fn put_abandoned(tape: &mut Tape, answer: Option<AbandonedMessage>)
+    ensures { Puts tape.old tape.new (λ us. words (to_abandon answer) ++ us) }
+{
+    match answer {
+        None => tape.put_all(&[7, 0, 0, 0, 0]),
+        Some(message) => tape.put_all(&[7, 1, message.stream as u64, message.bytes, 0]),
+    }
+}
+
+fn put_found(tape: &mut Tape, answer: Option<Chunk>)
+    ensures { Puts tape.old tape.new (λ us. words (to_find answer) ++ us) }
+{
+    match answer {
+        None => tape.put_all(&[8, 0, 0, 0, 0]),
+        Some(chunk) => {
+            tape.put_all(&[8, 1, 0, 0, 0]);
+            put_chunk(tape, chunk)
         }
     }
 }
 
-fn put_earliest(tape: &mut [u64], at: usize, answer: Earliest) -> usize
-    ensures { (us : List ℕ) → sets tape.new result us ≡ sets tape.old at (words (to_seek answer) ++ us) }
+fn put_earliest(tape: &mut Tape, answer: Option<u32>)
+    ensures { Puts tape.old tape.new (λ us. words (to_seek answer) ++ us) }
 {
     match answer {
-        Earliest::Nothing => super::tape::put_five(tape, at, 9, 0, 0, 0, 0),
-        Earliest::Tsn(tsn) => super::tape::put_five(tape, at, 9, 1, tsn as u64, 0, 0),
+        None => tape.put_all(&[9, 0, 0, 0, 0]),
+        Some(tsn) => tape.put_all(&[9, 1, tsn as u64, 0, 0]),
     }
 }
 
-fn put_amount(tape: &mut [u64], at: usize, answer: Amount) -> usize
-    ensures { (us : List ℕ) → sets tape.new result us ≡ sets tape.old at (words (to_measure answer) ++ us) }
+fn put_amount(tape: &mut Tape, answer: Result<u64, Refusal>)
+    ensures { Puts tape.old tape.new (λ us. words (to_measure answer) ++ us) }
 {
     match answer {
-        Amount::Refused(n) => super::tape::put_five(tape, at, 10, 0, n as u64, 0, 0),
-        Amount::Is(amount) => super::tape::put_five(tape, at, 10, 1, amount, 0, 0),
+        Err(refusal) => put_refused(tape, 10, refusal),
+        Ok(amount) => tape.put_all(&[10, 1, amount, 0, 0]),
     }
 }
 
-fn put_counted(tape: &mut [u64], at: usize, answer: model::Counted) -> usize
-    ensures { (us : List ℕ) → sets tape.new result us ≡ sets tape.old at (words (to_count answer) ++ us) }
+fn put_counted(tape: &mut Tape, answer: Result<Statistics, Refusal>)
+    ensures { Puts tape.old tape.new (λ us. words (to_count answer) ++ us) }
 {
     match answer {
-        model::Counted::Refused(n) => super::tape::put_five(tape, at, 11, 0, n as u64, 0, 0),
-        model::Counted::Are(sent) => super::tape::put_five(
-            tape,
-            at,
-            11,
-            1,
-            sent.messages,
-            sent.bytes,
-            0,
-        ),
+        Err(refusal) => put_refused(tape, 11, refusal),
+        Ok(sent) => tape.put_all(&[11, 1, sent.messages, sent.bytes, 0]),
     }
 }
 
 // The answer of a call.
-pub fn put_answer(tape: &mut [u64], at: usize, answer: Answer) -> usize
-    ensures { (us : List ℕ) → sets tape.new result us ≡ sets tape.old at (words (said answer) ++ us) }
+pub fn put_answer(tape: &mut Tape, answer: Answer)
+    ensures { Puts tape.old tape.new (λ us. words (said answer) ++ us) }
 {
     match answer {
-        Answer::ToDo(inner) => put_done(tape, at, inner),
-        Answer::ToWrite(inner) => put_written(tape, at, inner),
-        Answer::ToRelease(inner) => put_released(tape, at, inner),
-        Answer::ToSend(inner) => put_sent(tape, at, inner),
-        Answer::ToExpire(inner) => put_expired(tape, at, inner),
-        Answer::ToExpireTail(inner) => put_tail_expired(tape, at, inner),
-        Answer::ToAbandon(inner) => put_abandoned(tape, at, inner),
-        Answer::ToFind(inner) => put_found(tape, at, inner),
-        Answer::ToSeek(inner) => put_earliest(tape, at, inner),
-        Answer::ToMeasure(inner) => put_amount(tape, at, inner),
-        Answer::ToCount(inner) => put_counted(tape, at, inner),
-        Answer::Number(number) => super::tape::put_five(tape, at, 13, 1, number, 0, 0),
-        Answer::YesNo(yes) => super::tape::put_five(tape, at, 14, 1, cells::bit(yes), 0, 0),
+        Answer::ToDo(inner) => put_done(tape, inner),
+        Answer::ToWrite(inner) => put_crossed(tape, 2, inner),
+        Answer::ToRelease(inner) => put_crossed(tape, 3, inner),
+        Answer::ToSend(inner) => put_sent(tape, inner),
+        Answer::ToExpire(inner) => put_expired(tape, inner),
+        Answer::ToExpireTail(inner) => put_tail_expired(tape, inner),
+        Answer::ToAbandon(inner) => put_abandoned(tape, inner),
+        Answer::ToFind(inner) => put_found(tape, inner),
+        Answer::ToSeek(inner) => put_earliest(tape, inner),
+        Answer::ToMeasure(inner) => put_amount(tape, inner),
+        Answer::ToCount(inner) => put_counted(tape, inner),
+        Answer::Number(number) => tape.put_all(&[13, 1, number, 0, 0]),
+        Answer::YesNo(yes) => tape.put_all(&[14, 1, cells::bit(yes), 0, 0]),
     }
 }
 
 // The answer to a SACK.
-pub fn put_sacked(tape: &mut [u64], at: usize, answer: Sacked) -> usize
-    ensures { (us : List ℕ) → sets tape.new result us ≡ sets tape.old at (reply_words (sacked answer) ++ us) }
+pub fn put_sacked(tape: &mut Tape, answer: Result<Option<u64>, Refusal>)
+    ensures { Puts tape.old tape.new (λ us. reply_words (sacked answer) ++ us) }
 {
     match answer {
-        Sacked::Refused(n) => super::tape::put_five(tape, at, 15, 0, n as u64, 0, 0),
-        Sacked::Released(bytes) => super::tape::put_five(tape, at, 15, 1, bytes, 0, 0),
-        Sacked::Stale => super::tape::put_five(tape, at, 15, 2, 0, 0, 0),
+        Err(refusal) => put_refused(tape, 15, refusal),
+        Ok(Some(bytes)) => tape.put_all(&[15, 1, bytes, 0, 0]),
+        Ok(None) => tape.put_all(&[15, 2, 0, 0, 0]),
     }
 }

@@ -40,13 +40,10 @@ fn signed(word: u64, negative: bool) -> i64
     ensures { result ≡ amount_of word negative }
 {
     let magnitude = (word % 9_223_372_036_854_775_808) as i64;
-    if negative {
-        return -1 - magnitude;
-    }
-    magnitude
+    if negative { !magnitude } else { magnitude }
 }
 
-// Rows 0 to 13.
+// Rows 0 to 13. A row stays a number, since that is what a word holds.
 fn change(row: u64, a: u64, b: u64, c: u64, d: u64) -> Call
     ensures { result ≡ change row a b c d }
 {
@@ -54,40 +51,40 @@ fn change(row: u64, a: u64, b: u64, c: u64, d: u64) -> Call
     let tsn = low32(a);
     match row {
         0 => Call::Open {
-            identifier: identifier,
+            identifier,
             maximum: low32(b),
         },
         1 => Call::SetReliability {
-            identifier: identifier,
+            identifier,
             unordered: b % 2 == 1,
             kind: (c % 256) as u8,
             value: low32(d),
         },
         2 => Call::SetLow {
-            identifier: identifier,
+            identifier,
             threshold: b,
         },
         3 => Call::SetHigh {
-            identifier: identifier,
+            identifier,
             threshold: b,
         },
         4 => Call::Write {
-            identifier: identifier,
+            identifier,
             protocol: low32(b),
             offset: c,
             length: d,
         },
         5 => Call::Release {
-            identifier: identifier,
+            identifier,
             released: signed(b, c % 2 == 1),
         },
         6 => Call::StartLifetimes { clock: a },
         7 => Call::Send { clock: a },
         8 => Call::ExpirePending { clock: a },
         9 => Call::ExpirePendingTail { clock: a },
-        10 => Call::Abandon { tsn: tsn },
-        11 => Call::Acknowledge { tsn: tsn },
-        12 => Call::Pop { tsn: tsn },
+        10 => Call::Abandon { tsn },
+        11 => Call::Acknowledge { tsn },
+        12 => Call::Pop { tsn },
         _ => Call::MarkAll,
     }
 }
@@ -99,8 +96,8 @@ fn question(row: u64, a: u64) -> Query
     let identifier = low16(a);
     let tsn = low32(a);
     match row {
-        0 => Query::Get { tsn: tsn },
-        1 => Query::IsAbandoned { tsn: tsn },
+        0 => Query::Get { tsn },
+        1 => Query::IsAbandoned { tsn },
         2 => Query::PeekPending,
         3 => Query::NextMessage,
         4 => Query::NextTsn,
@@ -109,24 +106,12 @@ fn question(row: u64, a: u64) -> Query
         7 => Query::InflightLength,
         8 => Query::InflightBytes,
         9 => Query::EarliestOutstanding,
-        10 => Query::PendingContainsStream {
-            identifier: identifier,
-        },
-        11 => Query::ContainsStream {
-            identifier: identifier,
-        },
-        12 => Query::BufferedAmount {
-            identifier: identifier,
-        },
-        13 => Query::LowThreshold {
-            identifier: identifier,
-        },
-        14 => Query::HighThreshold {
-            identifier: identifier,
-        },
-        _ => Query::Statistics {
-            identifier: identifier,
-        },
+        10 => Query::PendingContainsStream { identifier },
+        11 => Query::ContainsStream { identifier },
+        12 => Query::BufferedAmount { identifier },
+        13 => Query::LowThreshold { identifier },
+        14 => Query::HighThreshold { identifier },
+        _ => Query::Statistics { identifier },
     }
 }
 
@@ -134,17 +119,17 @@ fn question(row: u64, a: u64) -> Query
 pub fn plain(row: u64, a: u64, b: u64, c: u64, d: u64) -> Call
     ensures { result ≡ plain_of row a b c d }
 {
-    if row < 14 {
-        return change(row, a, b, c, d);
+    match row.checked_sub(14) {
+        None => change(row, a, b, c, d),
+        Some(asked) => Call::Ask(question(asked, a)),
     }
-    Call::Ask(question(row - 14, a))
 }
 
 // A word, or 0 where there is none.
 fn word(words: &[u64], i: usize) -> u64
     ensures { result ≡ get_or words.now i 0 }
 {
-    if i < words.len() { words[i] } else { 0 }
+    words.get(i).copied().unwrap_or(0)
 }
 
 // The request that the words are, whatever the bytes.
@@ -154,19 +139,15 @@ pub fn read(words: &[u64]) -> Coded
     let row = word(words, 0);
     let a = word(words, 1);
     let b = word(words, 2);
-    if row < 30 {
-        let call = plain(row, a, b, word(words, 3), word(words, 4));
-        return Coded::Plain(call);
-    }
-    if row == 31 {
-        return Coded::Sack {
+    match row {
+        0..=29 => Coded::Plain(plain(row, a, b, word(words, 3), word(words, 4))),
+        31 => Coded::Sack {
             from: a as usize,
             count: b as usize,
-        };
-    }
-    let room = if b < 256 { b as usize } else { LIST_MAX };
-    Coded::Expired {
-        clock: a,
-        room: room,
+        },
+        _ => Coded::Expired {
+            clock: a,
+            room: (b as usize).min(LIST_MAX),
+        },
     }
 }

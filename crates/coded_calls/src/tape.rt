@@ -1,39 +1,42 @@
-// A lent slice that is filled one word behind the other. What does not fit is left out. A call takes the place of the next word and gives
-// the place behind: whatever is written from there on then stands behind what the call wrote (`us` of the contracts is what comes later).
-ghost use Rattle.std.specs.Prelude.{◌≡◌, List, ◌∷◌, ◌++◌, ℕ};
-ghost use Rattle.std.proofs.lemmas.List.Edits.{sets};
+// A lent slice that is filled one word behind the other. What does not fit is left out. `us` of the contracts is what comes later: whatever
+// is written from the new place on then stands behind what the call wrote.
+ghost use Rattle.std.specs.Prelude.{◌∷◌, ◌++◌};
+ghost use Rattle.coded_calls.specs.Tapes.{Puts};
 
-// One word.
-pub fn put(tape: &mut [u64], at: usize, word: u64) -> usize
-    ensures { (us : List ℕ) → sets tape.new result us ≡ sets tape.old at (word ∷ us) }
-{
-    if tape.len() <= at {
-        return at;
-    }
-    tape[at] = word;
-    at + 1
+#[derive(Drop)]
+pub struct Tape<'a> {
+    pub words: &'a mut [u64],
+    // The place of the next word.
+    pub at: usize,
 }
 
-// Five words.
-pub fn put_five(tape: &mut [u64], at: usize, a: u64, b: u64, c: u64, d: u64, e: u64) -> usize
-    ensures { (us : List ℕ) → sets tape.new result us ≡ sets tape.old at (a ∷ b ∷ c ∷ d ∷ e ∷ us) }
-{
-    let second = put(tape, at, a);
-    let third = put(tape, second, b);
-    let fourth = put(tape, third, c);
-    let fifth = put(tape, fourth, d);
-    put(tape, fifth, e)
-}
-
-// All numbers of a list.
-pub fn put_list(tape: &mut [u64], at: usize, list: &[u32]) -> usize
-    ensures { (us : List ℕ) → sets tape.new result us ≡ sets tape.old at (list.now ++ us) }
-{
-    let mut place = at;
-    let mut i = 0;
-    while i < list.len() {
-        place = put(tape, place, list[i] as u64);
-        i += 1;
+impl Tape<'_> {
+    // One word.
+    pub fn put(&mut self, word: u64)
+        ensures { Puts self.old self.new (λ us. word ∷ us) }
+    {
+        if self.at < self.words.len() {
+            self.words[self.at] = word;
+            self.at += 1;
+        }
     }
-    place
+
+    // All words of a slice.
+    pub fn put_all(&mut self, words: &[u64])
+        ensures { Puts self.old self.new (λ us. words.now ++ us) }
+    {
+        for word in words {
+            self.put(*word);
+        }
+    }
+
+    // All numbers of a list. Not one function with `put_all`: what `Into` gives of a number is a relation, so that one would take a longer
+    // contract to say what it writes.
+    pub fn put_list(&mut self, list: &[u32])
+        ensures { Puts self.old self.new (λ us. list.now ++ us) }
+    {
+        for number in list {
+            self.put(u64::from(*number));
+        }
+    }
 }

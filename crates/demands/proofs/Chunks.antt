@@ -10,19 +10,15 @@ use lib.ListN.{length}
 use lib.Dec.{eqb, leb}
 use borrow.Author.Tests.{leb-true, leb-false, not-false, not-true, eqb-true}
 use Rattle.limits.specs.Limits.{Room}
-use Rattle.limits.specs.declared.Moment.{Moment}
-use Rattle.limits.specs.declared.Moment.TheVariants.{Absent, At}
 use Rattle.model.specs.declared.Chunk.{Chunk}
-use Rattle.model.specs.declared.Lane.{Lane}
-use Rattle.model.specs.declared.Lane.TheVariants.{Unordered, Ordered}
+use Rattle.model.specs.State.{Lane, Unordered, Ordered, Sender, Pending, Numbers, Out, fresh, at, lane_of, in_rings, with_ring, with_pending, with_streams, is_of, place}
 use Rattle.model.specs.declared.Message.{Message}
 use Rattle.model.specs.declared.Stream.{Stream}
 use Rattle.model.specs.Lists.{when◌then◌else◌}
-use Rattle.model.specs.State.{Sender, Pending, Numbers, Out, fresh, at, lane_of, in_rings, with_ring, with_pending, with_streams, is_of, place}
 use Rattle.model.specs.Streams.{find, put}
 use Rattle.model.specs.Messages.{is_dcep, cut, message_of, pieces, number_after, written, accepted}
 use Rattle.model.specs.Rings.{head, head_lane, with_message, renewed, ssn_before, has_lifetime, begun, started, lowered, with_lifetimes, sent_at, under_way_after, without, overdue, compacted, marked, given_up, terminator, abandoned, taken}
-use Rattle.limits.specs.Moments.{passed}
+use Rattle.limits.specs.Moments.{passed, Moment}
 use Rattle.model.specs.Flight.{acknowledged, to_retransmit, outstanding}
 use Rattle.model.specs.Calls.{Call, Answer, step, run}
 use Rattle.demands.specs.Words.{Each}
@@ -33,6 +29,7 @@ use Rattle.demands.proofs.Lists.{Lists, joined_parts, not_of, at_without, lists_
 use Rattle.demands.proofs.Tables.{Table, table_put, table_drop, written_fits, found_is}
 use Rattle.demands.proofs.Views.{Does, does, Accepts, streams_only, writes, starts, sends, abandons_it, expires_tail, expires_whole, acks, pops, marks}
 use Rattle.demands.proofs.Pieces.{Piece, pieces_are}
+use Rattle.std.specs.Prelude.{Some, None}
 
 -- ---- one message
 
@@ -112,7 +109,7 @@ known_begun l n now x h =
     k = n.unstarted
 
     timed : Message
-    timed = renewed x.ssn (At (now + x.reliability.value)) x
+    timed = renewed x.ssn (Some (now + x.reliability.value)) x
 
     with_one : has_lifetime x ≡ true → Known l (all_seen n) timed
     with_one e =
@@ -136,8 +133,8 @@ begun_unordered : (now k : ℕ) (x : Message) → (begun now k x).unordered ≡ 
 begun_unordered now k x = if-case (λ (y : Message). y.unordered ≡ x.unordered) (leb k x.number && has_lifetime x) (λ _. refl) (λ _. refl)
 
 passed_present : (now : ℕ) (d : Moment) → passed now d ≡ true → present d ≡ true
-passed_present now Absent e = e
-passed_present now (At d) e = refl
+passed_present now None e = e
+passed_present now (Some d) e = refl
 
 module _ (l : List Stream) (n : Numbers) where
   lists_started : (now : ℕ) (p : Pending) (f : List Chunk) → n.unstarted ≤ n.next → Lists (PendingChunk l n) (FlightEntry l n) p f

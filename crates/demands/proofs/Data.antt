@@ -10,11 +10,8 @@ use lib.ListN.{length, take, drop, length-append, length-replicate}
 use lib.Seq.{take_at, drop_at, drop-drop}
 use borrow.Author.Tests.{le-leb, lt-ltb, le-ltb}
 use Rattle.limits.specs.Limits.{payload_max}
-use Rattle.limits.specs.Refusals.{no_entry, payload_outside, output_short}
 use Rattle.octets.specs.Numbers.{short_at, long_at, zeros}
 use Rattle.model.specs.declared.Chunk.{Chunk}
-use Rattle.model.specs.declared.Data.{Data}
-use Rattle.model.specs.declared.Laid.{Laid}
 use Rattle.model.specs.Lists.{when◌then◌else◌}
 use Rattle.model.specs.State.{Sender, in_flight, place}
 use Rattle.model.specs.Messages.{flags}
@@ -26,34 +23,37 @@ use Rattle.demands.specs.Data.{ToSend, data_size, payload_length, data_length, D
 use Rattle.demands.proofs.Basic.{bool_case}
 use Rattle.demands.proofs.Each.{each_get}
 use Rattle.demands.proofs.Requests.{numbers_fit_served}
+use Rattle.std.specs.Prelude.{Ok}
+use Rattle.limits.specs.declared.Refusal.TheVariants.{NoEntry, PayloadOutside, OutputShort}
+use Rattle.model.specs.Answers.{data_fields}
 
 -- ---- when it is written
 
 module _ (t : ℕ) (l out : List ℕ) (s : Sender) where
   -- without an entry to send
-  none_to_send : (o : Option Chunk) → ((c : Chunk) → o ≡ some c → outstanding c ≡ true → ⊥) → data_of_entry o t l out ≡ unwritten no_entry out
+  none_to_send : (o : Option Chunk) → ((c : Chunk) → o ≡ some c → outstanding c ≡ true → ⊥) → data_of_entry o t l out ≡ unwritten NoEntry out
   none_to_send none h = refl
   none_to_send (some c) h =
-      bool_case (λ b. (when b then data_laid t c l out else unwritten no_entry out) ≡ unwritten no_entry out) (outstanding c) (λ e. absurd (h c refl e)) (λ _. refl)
+      bool_case (λ b. (when b then data_laid t c l out else unwritten NoEntry out) ≡ unwritten NoEntry out) (outstanding c) (λ e. absurd (h c refl e)) (λ _. refl)
 
   -- with one
   of_one : (c : Chunk) → ToSend t s c → data_of_entry (in_flight t s.flight) t l out ≡ data_laid t c l out
   of_one c h =
-      ap (λ (o : Option Chunk). data_of_entry o t l out) h.entry ∙ ap (λ (b : Bool). when b then data_laid t c l out else unwritten no_entry out) h.outstanding
+      ap (λ (o : Option Chunk). data_of_entry o t l out) h.entry ∙ ap (λ (b : Bool). when b then data_laid t c l out else unwritten NoEntry out) h.outstanding
 
 module _ (t : ℕ) (c : Chunk) (l out : List ℕ) where
-  not_within : length l < c.offset + c.length → data_laid t c l out ≡ unwritten payload_outside out
+  not_within : length l < c.offset + c.length → data_laid t c l out ≡ unwritten PayloadOutside out
   not_within h = rw (lt-ltb (length l) (c.offset + c.length) h)
 
   module _ (within : c.offset + c.length ≤ length l) where
-    no_room : length out < data_size c → data_laid t c l out ≡ unwritten output_short out
+    no_room : length out < data_size c → data_laid t c l out ≡ unwritten OutputShort out
     no_room h = rw (le-ltb (length l) (c.offset + c.length) within, lt-ltb (length out) (length (data_bytes t c l)) (omega (arith, data_length t c l within)))
 
-    put : data_size c ≤ length out → data_laid t c l out ≡ record { answer = Laid.Bytes (data_size c); out = data_bytes t c l ++ drop (data_size c) out }
+    put : data_size c ≤ length out → data_laid t c l out ≡ record { answer = Ok (data_size c); out = data_bytes t c l ++ drop (data_size c) out }
     put h =
-        let e : data_laid t c l out ≡ record { answer = Laid.Bytes (length (data_bytes t c l)); out = data_bytes t c l ++ drop (length (data_bytes t c l)) out } =
+        let e : data_laid t c l out ≡ record { answer = Ok (length (data_bytes t c l)); out = data_bytes t c l ++ drop (length (data_bytes t c l)) out } =
         rw (le-ltb (length l) (c.offset + c.length) within, le-ltb (length out) (length (data_bytes t c l)) (omega (arith, data_length t c l within))) in
-        e ∙ (λ i. record { answer = Laid.Bytes (data_length t c l within i); out = data_bytes t c l ++ drop (data_length t c l within i) out })
+        e ∙ (λ i. record { answer = Ok (data_length t c l within i); out = data_bytes t c l ++ drop (data_length t c l within i) out })
 
 pub data_is_written : DataIsWritten
 unfolding data_chunk
@@ -92,10 +92,10 @@ module _ (t : ℕ) (c : Chunk) (l rest : List ℕ) (small : c.length ≤ payload
   held : short_at 2 p - 16 ≡ c.length
   held = omega (arith, sized)
 
-  fields_back : read_data p ≡ Data.Chunk t c.message.stream c.message.ssn (flags c) c.message.protocol c.length
+  fields_back : read_data p ≡ data_fields t c.message.stream c.message.ssn (flags c) c.message.protocol c.length
   fields_back =
       rw (le-leb 16 (length p) (omega (arith, long_enough)), le-leb 16 (short_at 2 p) (omega (arith, sized)), le-leb (short_at 2 p) (length p) (omega (arith, sized, long_enough)))
-      (λ i. Data.Chunk (tsn i) (stream i) (ssn i) (flags c) (protocol i) (held i))
+      (λ i. data_fields (tsn i) (stream i) (ssn i) (flags c) (protocol i) (held i))
 
   -- behind the header
   payload_behind : drop 16 p ≡ payload_of c l ++ (zeros (padding c.length) ++ rest)
@@ -133,7 +133,7 @@ module _ (t : ℕ) (l out : List ℕ) (n : ℕ) where
   abbrev Back : Chunk → Output → Type 0
   Back c o = ReadsBack t c l out n o.out
 
-  one_back : (c : Chunk) → c.length ≤ payload_max → (data_laid t c l out).answer ≡ Laid.Bytes n → Back c (data_laid t c l out)
+  one_back : (c : Chunk) → c.length ≤ payload_max → (data_laid t c l out).answer ≡ Ok n → Back c (data_laid t c l out)
   one_back c small e = go (dec_le (c.offset + c.length) (length l))
     where
       fits : (w : c.offset + c.length ≤ length l) → Dec (data_size c ≤ length out) → Back c (data_laid t c l out)
@@ -148,14 +148,14 @@ module _ (t : ℕ) (l out : List ℕ) (n : ℕ) where
       go (no w) = let z = sym (ap (λ (o : Output). o.answer) (not_within t c l out (omega arith))) ∙ e in let y : ◌≡◌ {A = ℕ} 0 1 = cc in absurd (omega arith)
 
   -- of what was looked for
-  entry_back : (s : Sender) → ((c : Chunk) → in_flight t s.flight ≡ some c → c.length ≤ payload_max) → (data_of_entry (in_flight t s.flight) t l out).answer ≡ Laid.Bytes n
+  entry_back : (s : Sender) → ((c : Chunk) → in_flight t s.flight ≡ some c → c.length ≤ payload_max) → (data_of_entry (in_flight t s.flight) t l out).answer ≡ Ok n
       → (c : Chunk) × ToSend t s c × Back c (data_of_entry (in_flight t s.flight) t l out)
   entry_back s small e = go (in_flight t s.flight) refl e
     where
-      go : (o : Option Chunk) → in_flight t s.flight ≡ o → (data_of_entry o t l out).answer ≡ Laid.Bytes n → (c : Chunk) × ToSend t s c × Back c (data_of_entry (in_flight t s.flight) t l out)
+      go : (o : Option Chunk) → in_flight t s.flight ≡ o → (data_of_entry o t l out).answer ≡ Ok n → (c : Chunk) × ToSend t s c × Back c (data_of_entry (in_flight t s.flight) t l out)
       go none q a = let y : ◌≡◌ {A = ℕ} 0 1 = cc in absurd (omega arith)
       go (some c) q a =
-          bool_case (λ b. outstanding c ≡ b → (when b then data_laid t c l out else unwritten no_entry out).answer ≡ Laid.Bytes n → (d : Chunk) × ToSend t s d × Back d (data_of_entry (in_flight t s.flight) t l out)) (outstanding c)
+          bool_case (λ b. outstanding c ≡ b → (when b then data_laid t c l out else unwritten NoEntry out).answer ≡ Ok n → (d : Chunk) × ToSend t s d × Back d (data_of_entry (in_flight t s.flight) t l out)) (outstanding c)
           (λ _ h a. let there : ToSend t s c = record { entry = q; outstanding = h } in (c, there, subst (Back c) (sym (of_one t l out s c there)) (one_back c (small c q) a)))
           (λ _ _ a. let y : ◌≡◌ {A = ℕ} 0 1 = cc in absurd (omega arith))
           refl a

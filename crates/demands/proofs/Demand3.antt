@@ -9,12 +9,8 @@ use lib.ListN.{length}
 use borrow.Author.Tests.{le-ltb, lt-leb}
 use Rattle.limits.specs.Limits.{Room, clock_max, tsns}
 use Rattle.model.specs.declared.Chunk.{Chunk}
-use Rattle.model.specs.declared.Sent.{Sent}
-use Rattle.model.specs.declared.Lane.{Lane}
-use Rattle.model.specs.declared.UnderWay.{UnderWay}
-use Rattle.model.specs.declared.UnderWay.TheVariants.{Idle, Sending}
+use Rattle.model.specs.State.{Lane, UnderWay, Idle, Sending, Sender, Pending, Numbers, Out, fresh, next_tsn, at, in_rings, with_pending}
 use Rattle.model.specs.Lists.{first}
-use Rattle.model.specs.State.{Sender, Pending, Numbers, Out, fresh, next_tsn, at, in_rings, with_pending}
 use Rattle.model.specs.Rings.{lane_ahead, head_lane, head, started, send, without}
 use Rattle.model.specs.Calls.{Call, Answer, step, run}
 use Rattle.demands.specs.Words.{SomePending}
@@ -23,15 +19,16 @@ use Rattle.demands.proofs.Views.{Does, does, streams_only, writes, starts, sends
 use Rattle.demands.proofs.Lists.{at_both}
 use Rattle.demands.proofs.Ring.{Ring}
 use Rattle.demands.proofs.Tsn.{compacted_flight, files_are, tsn_step, terminated, unterminated, yield_found}
-use Rattle.demands.proofs.Valid.{Valid, Ok, Waiting, own_ring}
+use Rattle.demands.proofs.Valid.{Valid, Sound, Waiting, own_ring}
 use Rattle.demands.proofs.Steps.{reached}
 use Rattle.demands.proofs.Rest.{sent_remaining, sent_in_order}
 use Rattle.demands.proofs.Waiting.{unordered_starts_lem, ordered_starts_lem}
+use Rattle.std.specs.Prelude.{Some, Ok}
 
 -- ---- the yield
 
 -- something is in front of the ring that is ahead
-some_ahead : {room : Room} {f : List Chunk} {k : Numbers} (w : UnderWay) (p : Pending) → Ok room w (λ l. at l p) f k → 0 < length p.unordered + length p.ordered
+some_ahead : {room : Room} {f : List Chunk} {k : Numbers} (w : UnderWay) (p : Pending) → Sound room w (λ l. at l p) f k → 0 < length p.unordered + length p.ordered
     → (d : Chunk) × (x : List Chunk) × (at (lane_ahead w p.unordered) p ≡ d ∷ x)
 some_ahead (Sending l) p v h = go (at l p) refl (own_ring v)
   where
@@ -56,7 +53,7 @@ ahead_map g p =
     ap (λ (l : Lane). at l (in_rings (map g) p)) (lane_map g p.under_way p.unordered) ∙ at_both (λ i y. y ≡ map g (at i p)) (map g) p (λ i. refl) (head_lane p)
 
 yields_head : {room : Room} (s : Sender) → Valid room s → (now : ℕ) → now ≤ clock_max → SomePending s → suc (length s.flight.entries) < room.flight
-    → (d : Chunk) × (head s.pending ≡ some d) × ((send room now s).says ≡ Sent.Yielded (next_tsn s) (sent_by now s d))
+    → (d : Chunk) × (head s.pending ≡ some d) × ((send room now s).says ≡ Ok (Some (next_tsn s, sent_by now s d)))
 unfolding send
 yields_head {room} s v now h i f =
     let z = some_ahead s.pending.under_way s.pending v i in

@@ -11,12 +11,8 @@ use borrow.Author.Tests.{eqb-true, eqb-false}
 use Rattle.limits.specs.Limits.{Room}
 use Rattle.model.specs.declared.Chunk.{Chunk}
 use Rattle.model.specs.declared.Message.{Message}
-use Rattle.model.specs.declared.Lane.{Lane}
-use Rattle.model.specs.declared.Lane.TheVariants.{Unordered, Ordered}
-use Rattle.model.specs.declared.UnderWay.{UnderWay}
-use Rattle.model.specs.declared.UnderWay.TheVariants.{Idle, Sending}
+use Rattle.model.specs.State.{Lane, Unordered, Ordered, UnderWay, Idle, Sending, Sender, Pending, Out, fresh, with_pending, at, is_of, place}
 use Rattle.model.specs.Lists.{when◌then◌else◌, keep, first, last}
-use Rattle.model.specs.State.{Sender, Pending, Out, fresh, with_pending, at, is_of, place}
 use Rattle.model.specs.Rings.{head_lane, with_lifetimes, sent_at, pending_of, without, given_up, terminators, abandoned}
 use Rattle.model.specs.Flight.{acknowledged, to_retransmit}
 use Rattle.model.specs.Calls.{Call, Answer, step, run, yielded, yields_of}

@@ -9,14 +9,10 @@ use mathlib.Core.List.{List, [], ◌∷◌, ◌++◌, map}
 use lib.Dec.{eqb, leb}
 use borrow.Author.Tests.{eqb-false, le-leb}
 use Rattle.limits.specs.Limits.{Room, clock_max, setting_max, offset_max, payload_max, number_max, tsns, ssns}
-use Rattle.limits.specs.declared.Moment.{Moment}
-use Rattle.limits.specs.declared.Moment.TheVariants.{At}
 use Rattle.model.specs.declared.Chunk.{Chunk}
-use Rattle.model.specs.declared.Lane.{Lane}
-use Rattle.model.specs.declared.Lane.TheVariants.{Unordered, Ordered}
+use Rattle.model.specs.State.{Lane, Unordered, Ordered, Sender, Pending, Numbers, Out, fresh, at, lane_of, with_ring, with_pending, with_streams, is_of, place}
 use Rattle.model.specs.declared.Message.{Message}
 use Rattle.model.specs.declared.Stream.{Stream}
-use Rattle.model.specs.State.{Sender, Pending, Numbers, Out, fresh, at, lane_of, with_ring, with_pending, with_streams, is_of, place}
 use Rattle.model.specs.Streams.{put}
 use Rattle.model.specs.Messages.{cut, message_of, pieces, number_after, written, accepted}
 use Rattle.model.specs.Rings.{
@@ -50,6 +46,8 @@ use Rattle.demands.proofs.Tables.{Table, each_find, table_put, table_drop, writt
 use Rattle.demands.proofs.Views.{Does, does, Accepts, streams_only, writes, starts, sends, abandons_it, expires_tail, expires_whole, acks, pops, marks}
 use Rattle.demands.proofs.Pieces.{Piece, pieces_are}
 use Rattle.demands.proofs.Chunks.{number_after_lem}
+use Rattle.std.specs.Prelude.{Some}
+use Rattle.limits.specs.Moments.{Moment}
 
 -- ---- one message
 
@@ -58,7 +56,7 @@ message_renewed n d x i j h = record { stream = h.stream; ssn = i; protocol = h.
 
 message_begun : (now k : ℕ) (x : Message) → now ≤ clock_max → MessageFits x → MessageFits (begun now k x)
 message_begun now k x i h =
-    if-case MessageFits (leb k x.number && has_lifetime x) (λ _. message_renewed x.ssn (At (now + x.reliability.value)) x h.ssn (omega (arith, h.reliability.value)) h) (λ _. h)
+    if-case MessageFits (leb k x.number && has_lifetime x) (λ _. message_renewed x.ssn (Some (now + x.reliability.value)) x h.ssn (omega (arith, h.reliability.value)) h) (λ _. h)
 
 -- ---- one chunk
 

@@ -5,11 +5,8 @@ use mathlib.Core.Bool.{Bool, true, not}
 use mathlib.Core.Option.{some}
 use mathlib.Core.List.{List, [], ◌∷◌, ◌++◌, map}
 use Rattle.model.specs.declared.Chunk.{Chunk}
-use Rattle.model.specs.declared.Lane.{Lane}
-use Rattle.model.specs.declared.Lane.TheVariants.{Unordered, Ordered}
-use Rattle.model.specs.declared.UnderWay.{UnderWay}
+use Rattle.model.specs.State.{Lane, Unordered, Ordered, UnderWay, Pending, at, in_rings, with_ring, is_of}
 use Rattle.model.specs.Lists.{keep, last}
-use Rattle.model.specs.State.{Pending, at, in_rings, with_ring, is_of}
 use Rattle.model.specs.Rings.{head_lane, head, without, pending_of, given_up, terminator, terminators, sent_at}
 use Rattle.demands.specs.Words.{Each}
 use Rattle.demands.proofs.Each.{each_weaken, each_map, each_append, each_parts, each_kept, each_keep, each_first}

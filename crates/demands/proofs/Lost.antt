@@ -12,14 +12,10 @@ use lib.Dec.{eqb, leb, ltb}
 use borrow.Author.Tests.{eqb-true, eq-eqb, ne_eqb}
 use Rattle.limits.specs.Limits.{Room, offset_max, buffered_max, number_max}
 use Rattle.model.specs.declared.Chunk.{Chunk}
-use Rattle.model.specs.declared.Lane.{Lane}
-use Rattle.model.specs.declared.Lane.TheVariants.{Unordered, Ordered}
+use Rattle.model.specs.State.{Lane, Unordered, Ordered, UnderWay, Sender, Pending, Numbers, Out, fresh, with_pending, at, lane_of, in_rings, with_ring, is_of}
 use Rattle.model.specs.declared.Message.{Message}
 use Rattle.model.specs.declared.Stream.{Stream}
-use Rattle.model.specs.declared.UnderWay.{UnderWay}
-use Rattle.model.specs.declared.Written.{Written}
 use Rattle.model.specs.Lists.{when◌then◌else◌, keep, first}
-use Rattle.model.specs.State.{Sender, Pending, Numbers, Out, fresh, with_pending, at, lane_of, in_rings, with_ring, is_of}
 use Rattle.model.specs.Streams.{find}
 use Rattle.model.specs.Messages.{pieces, fragments, message_of, is_unordered, number_after, accepted, write}
 use Rattle.model.specs.Rings.{head_lane, with_message, has_lifetime, started, lowered, with_lifetimes, sent_at, pending_of, without, compacted}
@@ -35,6 +31,7 @@ use Rattle.demands.proofs.Chunks.{number_after_lem}
 use Rattle.demands.proofs.Ring.{none_of}
 use Rattle.demands.proofs.Valid.{Valid, Waiting, other, front, not_beside, start_core, numbered}
 use Rattle.demands.proofs.Steps.{keeps, reached}
+use Rattle.model.specs.Answers.{Written}
 
 -- ---- one chunk as it was cut
 

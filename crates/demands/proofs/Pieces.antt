@@ -4,12 +4,12 @@ use native.Mathlib.Nat.{le_refl, div-zero}
 use native.Mathlib.Omega.{arith}
 use mathlib.Core.Path.{◌≡◌, refl}
 use mathlib.Core.Bool.{Bool, false}
-use Rattle.limits.specs.declared.Moment.TheVariants.{Absent}
 use Rattle.model.specs.declared.Chunk.{Chunk}
 use Rattle.model.specs.declared.Message.{Message}
 use Rattle.model.specs.Messages.{pieces, cut}
 use Rattle.demands.specs.Words.{Each}
 use Rattle.demands.proofs.Fragments.{each_fragment}
+use Rattle.std.specs.Prelude.{None}
 
 -- a fragment of x, of at most m bytes, that ends at e or before
 pub record Piece (x : Message) (m e : ℕ) (c : Chunk) : Type 0 where
@@ -17,7 +17,7 @@ pub record Piece (x : Message) (m e : ℕ) (c : Chunk) : Type 0 where
   pub full : 1 ≤ c.length
   pub short : c.length ≤ m
   pub reach : c.offset + c.length ≤ e
-  pub unsent : c.since ≡ Absent
+  pub unsent : c.since ≡ None
   pub nsent : c.nsent ≡ 0
   pub acked : c.acked ≡ false
   pub abandoned : c.abandoned ≡ false

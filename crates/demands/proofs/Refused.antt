@@ -13,14 +13,9 @@ use borrow.Author.Tests.{leb-true}
 use Rattle.limits.specs.Limits.{Room, clock_max, offset_max, buffered_max, payload_max, number_max}
 use Rattle.limits.specs.Refusals.{done, beyond_limit, bad_bounds, not_open, already_open, streams_full, message_long, buffer_full, ring_full, numbers_spent, flight_full, list_short}
 use Rattle.model.specs.declared.Chunk.{Chunk}
-use Rattle.model.specs.declared.Done.{Done}
-use Rattle.model.specs.declared.Expired.{Expired}
-use Rattle.model.specs.declared.Sent.{Sent}
 use Rattle.model.specs.declared.Stream.{Stream}
-use Rattle.model.specs.declared.TailExpired.{TailExpired}
-use Rattle.model.specs.declared.Lane.{Lane}
+use Rattle.model.specs.State.{Lane, Sender, Out, same, at, lane_of}
 use Rattle.model.specs.Lists.{when◌then◌else◌, some_of}
-use Rattle.model.specs.State.{Sender, Out, same, at, lane_of}
 use Rattle.model.specs.Streams.{find, open_new, open_stream, changed, set_reliability, set_low, set_high, releasing, release, amount, counts}
 use Rattle.model.specs.Messages.{pieces, is_unordered, writing, write}
 use Rattle.model.specs.Rings.{head, head_lane, with_lifetimes, start_lifetimes, sending, send, expires, expiring, expire_pending, tail_expires, tail_expiring, expire_pending_tail, tsns_of, expired_entry, Listing, expired_inflight}
@@ -75,6 +70,8 @@ use Rattle.model.specs.Calls.{
 }
 use Rattle.demands.specs.Refusals.{RefusalsChangeNothing, refusal_in, refusals_of_asking, refusals_of, Listed, RefusalsAreListed}
 use Rattle.demands.proofs.Basic.{if-case, and_l, and_r}
+use Rattle.std.specs.Prelude.{Err}
+use Rattle.limits.specs.declared.Refusal.TheVariants.{BeyondLimit}
 
 -- an answer that refuses with a number of the list, or not at all
 record Answers (l : List ℕ) (a : Answer) : Type 0 where
@@ -206,12 +203,12 @@ heeded room (SetLow id x) s = heeds (change (find id s.streams) _ s)
 heeded room (SetHigh id x) s = heeds (change (find id s.streams) _ s)
 heeded room (Write id p o l) s = heeds (write_found (find id s.streams) room id p o l s)
 heeded room (Release id r) s = heeds (release_found (find id s.streams) r s)
-heeded room (StartLifetimes now) s = heeds {f = to_do} (clocked now (Done.Refused beyond_limit) refl refl (fine refl refl))
+heeded room (StartLifetimes now) s = heeds {f = to_do} (clocked now (Err BeyondLimit) refl refl (fine refl refl))
 heeded room (Send now) s =
     let p = (with_lifetimes now s).pending in
-    heeds (clocked now (Sent.Refused beyond_limit) refl refl (send_front (head_lane p) (at (head_lane p) p) room now s (with_lifetimes now s)))
-heeded room (ExpirePending now) s = heeds (clocked now (Expired.Refused beyond_limit) refl refl (expire_head (head s.pending) now s))
-heeded room (ExpirePendingTail now) s = heeds (clocked now (TailExpired.Refused beyond_limit) refl refl (expire_tail (head s.pending) now s))
+    heeds (clocked now (Err BeyondLimit) refl refl (send_front (head_lane p) (at (head_lane p) p) room now s (with_lifetimes now s)))
+heeded room (ExpirePending now) s = heeds (clocked now (Err BeyondLimit) refl refl (expire_head (head s.pending) now s))
+heeded room (ExpirePendingTail now) s = heeds (clocked now (Err BeyondLimit) refl refl (expire_tail (head s.pending) now s))
 heeded room (Abandon t) s = record { unchanged = λ n. absurd (n refl); listed = quiet refl }
 heeded room (Acknowledge t) s = record { unchanged = λ n. absurd (n refl); listed = quiet refl }
 heeded room (Pop t) s = record { unchanged = λ n. absurd (n refl); listed = quiet refl }

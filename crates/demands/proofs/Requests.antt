@@ -8,9 +8,7 @@ use Prim.Native.Nat.{ℕ, ◌+◌, ◌-◌, ◌%◌}
 use native.Mathlib.Omega.{arith}
 use lib.ListN.{length}
 use Rattle.limits.specs.Limits.{Room, tsns}
-use Rattle.limits.specs.Refusals.{bad_sack, bad_block}
 use Rattle.model.specs.declared.Block.{Block}
-use Rattle.model.specs.declared.Sacked.{Sacked}
 use Rattle.model.specs.Lists.{when◌then◌else◌, total}
 use Rattle.model.specs.State.{Sender, Out, fresh, same}
 use Rattle.model.specs.Messages.{write}
@@ -34,6 +32,10 @@ use Rattle.demands.proofs.States.{every_state}
 use Rattle.demands.proofs.Final.{abandoned_is_final}
 use Rattle.demands.proofs.Lost.{nothing_lost}
 use Rattle.demands.proofs.Demand3.{from_fresh}
+use Rattle.std.specs.Prelude.{Some, None, Ok, Err}
+use Rattle.limits.specs.declared.Refusal.{Refusal}
+use Rattle.limits.specs.declared.Refusal.TheVariants.{BadSack, BadBlock}
+use Rattle.model.specs.Answers.{Sacked}
 
 -- ---- a SACK
 
@@ -41,9 +43,9 @@ module _ (room : Room) (t : ℕ) (l : List Block) (s : Sender) where
   -- what becomes of it, by whether it is stale and whether its blocks are good
   abbrev read : (stale good : Bool) → Out Sacked
   read stale good =
-      when stale then same Sacked.Stale s else
-      when good then record { after = run room (sack_calls t l s.flight) s; says = Sacked.Released (total bytes_in (answers room (sack_calls t l s.flight) s)) }
-      else same (Sacked.Refused bad_block) s
+      when stale then same (Ok None) s else
+      when good then record { after = run room (sack_calls t l s.flight) s; says = Ok (Some (total bytes_in (answers room (sack_calls t l s.flight) s))) }
+      else same (Err BadBlock) s
 
   read_is : (stale good : Bool) → (read stale good).after ≡ run room (when stale then [] else when good then sack_calls t l s.flight else []) s
   read_is true good = refl
@@ -60,7 +62,7 @@ unfolding sack
 serve_is room (Single k) s = refl
 serve_is room (ReadSack p) s = go (is_sack p)
   where
-    go : (b : Bool) → (when b then sacking room (cumulative_of p) (blocks_in p) s else same (Sacked.Refused bad_sack) s).after ≡ run room (when b then sack_singles (cumulative_of p) (blocks_in p) s else []) s
+    go : (b : Bool) → (when b then sacking room (cumulative_of p) (blocks_in p) s else same (Err BadSack) s).after ≡ run room (when b then sack_singles (cumulative_of p) (blocks_in p) s else []) s
     go true = sacking_is room (cumulative_of p) (blocks_in p) s
     go false = refl
 
@@ -141,12 +143,12 @@ abandoned_is_final_served room t n rs k m e qs =
 
 -- where its outcome says something else than bytes, it is the state that was
 module _ (room : Room) (t : ℕ) (l : List Block) (s : Sender) where
-  stale_read : (stale good : Bool) → (read room t l s stale good).says ≡ Sacked.Stale → (read room t l s stale good).after ≡ s
+  stale_read : (stale good : Bool) → (read room t l s stale good).says ≡ Ok None → (read room t l s stale good).after ≡ s
   stale_read true good e = refl
   stale_read false true e = let z : ◌≡◌ {A = ℕ} 0 1 = cc in absurd (omega arith)
   stale_read false false e = let z : ◌≡◌ {A = ℕ} 0 1 = cc in absurd (omega arith)
 
-  refused_read : (stale good : Bool) (n : ℕ) → (read room t l s stale good).says ≡ Sacked.Refused n → ((read room t l s stale good).after ≡ s) × ((n ≡ bad_sack) ⊎ (n ≡ bad_block))
+  refused_read : (stale good : Bool) (n : Refusal) → (read room t l s stale good).says ≡ Err n → ((read room t l s stale good).after ≡ s) × ((n ≡ BadSack) ⊎ (n ≡ BadBlock))
   refused_read true good n e = let z : ◌≡◌ {A = ℕ} 0 1 = cc in absurd (omega arith)
   refused_read false true n e = let z : ◌≡◌ {A = ℕ} 0 1 = cc in absurd (omega arith)
   refused_read false false n e = (refl, inr (cc))
@@ -162,13 +164,13 @@ module _ (room : Room) (p : List ℕ) (s : Sender) where
   good = all_within (length s.flight.entries - covered cumulative s.flight) (blocks_in p)
 
   abbrev outcome : Bool → Out Sacked
-  outcome is = when is then sacking room cumulative (blocks_in p) s else same (Sacked.Refused bad_sack) s
+  outcome is = when is then sacking room cumulative (blocks_in p) s else same (Err BadSack) s
 
-  stale_outcome : (is : Bool) → (outcome is).says ≡ Sacked.Stale → (outcome is).after ≡ s
+  stale_outcome : (is : Bool) → (outcome is).says ≡ Ok None → (outcome is).after ≡ s
   stale_outcome true e = stale_read room cumulative (blocks_in p) s stale good e
   stale_outcome false e = refl
 
-  refused_outcome : (is : Bool) (n : ℕ) → (outcome is).says ≡ Sacked.Refused n → ((outcome is).after ≡ s) × ((n ≡ bad_sack) ⊎ (n ≡ bad_block))
+  refused_outcome : (is : Bool) (n : Refusal) → (outcome is).says ≡ Err n → ((outcome is).after ≡ s) × ((n ≡ BadSack) ⊎ (n ≡ BadBlock))
   refused_outcome true n e = refused_read room cumulative (blocks_in p) s stale good n e
   refused_outcome false n e = (refl, inl (cc))
 

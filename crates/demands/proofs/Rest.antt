@@ -11,13 +11,8 @@ use borrow.Author.Tests.{ne_eqb}
 use Rattle.limits.specs.Limits.{Room}
 use Rattle.model.specs.declared.Chunk.{Chunk}
 use Rattle.model.specs.declared.Message.{Message}
-use Rattle.model.specs.declared.Sent.{Sent}
-use Rattle.model.specs.declared.Lane.{Lane}
-use Rattle.model.specs.declared.Lane.TheVariants.{Unordered, Ordered}
-use Rattle.model.specs.declared.UnderWay.{UnderWay}
-use Rattle.model.specs.declared.UnderWay.TheVariants.{Idle, Sending}
+use Rattle.model.specs.State.{Lane, Unordered, Ordered, UnderWay, Idle, Sending, Sender, Pending, Numbers, Out, at, in_rings, with_ring, lane_of, is_of}
 use Rattle.model.specs.Lists.{when◌then◌else◌, keep, first}
-use Rattle.model.specs.State.{Sender, Pending, Numbers, Out, at, in_rings, with_ring, lane_of, is_of}
 use Rattle.model.specs.Messages.{fragments, is_unordered}
 use Rattle.model.specs.Rings.{lane_ahead, head_lane, started, with_lifetimes, under_way_after, send, without, overdue}
 use Rattle.model.specs.Calls.{Call, Send, Answer, step, yielded, yields_of}
@@ -27,8 +22,9 @@ use Rattle.demands.proofs.Each.{each_parts}
 use Rattle.demands.proofs.Lists.{at_ring, at_both, not_of, at_without}
 use Rattle.demands.proofs.Views.{Does, does, streams_only, writes, starts, sends, abandons_it, expires_tail, expires_whole, acks, pops, marks, send_yields}
 use Rattle.demands.proofs.Ring.{Ring, number_follows, ring_rest, remaining_bare, bare_started, On}
-use Rattle.demands.proofs.Valid.{Valid, Ok, Waiting, last_number, own_ring, front, held_follows, leave, ended_is, start_core}
+use Rattle.demands.proofs.Valid.{Valid, Sound, Waiting, last_number, own_ring, front, held_follows, leave, ended_is, start_core}
 use Rattle.demands.proofs.Steps.{keeps}
+use Rattle.std.specs.Prelude.{Some, Ok}
 
 -- ---- up to the end
 
@@ -72,7 +68,7 @@ ring_own Unordered w x p = refl
 ring_own Ordered w x p = refl
 
 -- a write leaves it
-pub rest_pushed : {room : Room} {f : List Chunk} {k : Numbers} (w w' : UnderWay) (p : Pending) → Ok room w (λ l. at l p) f k → (j : Lane) (x : List Chunk)
+pub rest_pushed : {room : Room} {f : List Chunk} {k : Numbers} (w w' : UnderWay) (p : Pending) → Sound room w (λ l. at l p) f k → (j : Lane) (x : List Chunk)
     → rest_in w (with_ring j w' (at j p ++ x) p) ≡ rest_in w p
 rest_pushed Idle w' p v j x = refl
 rest_pushed (Sending l) w' p v j x =
@@ -86,7 +82,7 @@ rest_started now k Idle p = refl
 rest_started now k (Sending l) p = at_both (λ i y. map bare (up_to_end y) ≡ map bare (up_to_end (at i p))) (map (started now k)) p (λ i. end_started now k (at i p)) l
 
 -- another message's removal does
-pub rest_without : {room : Room} {f : List Chunk} {k : Numbers} (w : UnderWay) (p : Pending) (v : Ok room w (λ l. at l p) f k) (n : ℕ) → last_number w v.last ≢ some n
+pub rest_without : {room : Room} {f : List Chunk} {k : Numbers} (w : UnderWay) (p : Pending) (v : Sound room w (λ l. at l p) f k) (n : ℕ) → last_number w v.last ≢ some n
     → rest_in (leave n v.last w) (without n p) ≡ rest_in w p
 rest_without Idle p v n h = refl
 rest_without (Sending l) p v n h =
@@ -112,7 +108,7 @@ last_of W p k n [] r a = absurd r
 last_of W p k n (c ∷ x) r a = sym (number_follows r.0) ∙ a.0
 
 -- an abandoned message is another
-other_number : {room : Room} {f : List Chunk} {k : Numbers} (w : UnderWay) (p : Pending) (v : Ok room w (λ l. at l p) f k) (n m : ℕ) → Each (Of n) (map bare (rest_in w p)) → m ≢ n
+other_number : {room : Room} {f : List Chunk} {k : Numbers} (w : UnderWay) (p : Pending) (v : Sound room w (λ l. at l p) f k) (n m : ℕ) → Each (Of n) (map bare (rest_in w p)) → m ≢ n
     → last_number w v.last ≢ some m
 other_number Idle p v n m a h e = let z : ◌≡◌ {A = ℕ} 0 1 = cc in omega arith
 other_number (Sending l) p v n m a h e =
@@ -197,7 +193,7 @@ remaining_behind W c k x =
     bool_case (λ b. Ring W (when b then none else some c) k x → Remaining (when b then none else some (bare c)) (map bare (when b then [] else up_to_end x))) c.ending
     (λ _ _. tt) (λ _ r. remaining_bare (some c) (up_to_end x) (ring_rest W c k x r))
 
-pub sent_remaining : {room : Room} (s : Sender) → Valid room s → (now tsn : ℕ) (y : Chunk) → (send room now s).says ≡ Sent.Yielded tsn y
+pub sent_remaining : {room : Room} (s : Sender) → Valid room s → (now tsn : ℕ) (y : Chunk) → (send room now s).says ≡ Ok (Some (tsn, y))
     → Remaining (behind (bare y)) (left (send room now s).after.pending)
 sent_remaining {room} s v now tsn y e =
     let g = send_yields room s now tsn y e in
@@ -215,7 +211,7 @@ remaining_each Q (some p) [] a r = absurd r
 remaining_each Q (some p) (c ∷ l) a r =
     let q : Q c.message = subst Q (sym r.0.same_message) a in (q, remaining_each Q (behind c) l (if-case (On Q) c.ending (λ _. tt) (λ _. q)) r.1)
 
-pub sent_in_order : {room : Room} (s : Sender) → Valid room s → (now tsn : ℕ) (y : Chunk) → (send room now s).says ≡ Sent.Yielded tsn y → (js : List Call)
+pub sent_in_order : {room : Room} (s : Sender) → Valid room s → (now tsn : ℕ) (y : Chunk) → (send room now s).says ≡ Ok (Some (tsn, y)) → (js : List Call)
     → Unabandoned room y.message.number js (send room now s).after → Agree (map bare (yields_of room js (send room now s).after)) (left (send room now s).after.pending)
 sent_in_order {room} s v now tsn y e js h =
     let n : ℕ = y.message.number in

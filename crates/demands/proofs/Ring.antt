@@ -10,7 +10,6 @@ use mathlib.Core.Option.{Option, none, some}
 use mathlib.Core.List.{List, [], ◌∷◌, ◌++◌, map}
 use lib.Dec.{eqb, leb}
 use borrow.Author.Tests.{not-true, not-false, eqb-true, eqb-false, ne_eqb, lt-leb}
-use Rattle.limits.specs.declared.Moment.TheVariants.{Absent, At}
 use Rattle.model.specs.declared.Chunk.{Chunk}
 use Rattle.model.specs.declared.Message.{Message}
 use Rattle.model.specs.Lists.{when◌then◌else◌, keep}
@@ -21,6 +20,7 @@ use Rattle.demands.specs.Words.{bare, Follows, behind, Remaining, Each, up_to_en
 use Rattle.demands.specs.States.{Ascending}
 use Rattle.demands.proofs.Basic.{if-case, bool_case, and_l, and_r}
 use Rattle.demands.proofs.Each.{keep_none}
+use Rattle.std.specs.Prelude.{Some, None}
 
 abbrev pub Ring : (Message → Type 0) → Option Chunk → ℕ → List Chunk → Type 0
 Ring W none k [] = Unit {0}
@@ -153,7 +153,7 @@ module _ (f : Chunk → Chunk) (keeps-number : (c : Chunk) → (f c).message.num
 pub remaining_bare : (w : Option Chunk) (l : List Chunk) → Remaining w l → Remaining (omap bare w) (map bare l)
 remaining_bare =
     remaining_map bare (λ c. refl) (λ c. refl) (λ c. refl)
-    (λ p c r. record { not_first = r.not_first; same_message = ap (λ (x : Message). renewed x.ssn Absent x) r.same_message; contiguous = r.contiguous })
+    (λ p c r. record { not_first = r.not_first; same_message = ap (λ (x : Message). renewed x.ssn None x) r.same_message; contiguous = r.contiguous })
 
 -- a change of the message alone, which keeps its number
 abbrev pub remade : (Message → Message) → Chunk → Chunk
@@ -171,7 +171,7 @@ begun_number now k x = if-case (λ (y : Message). y.number ≡ x.number) (leb k 
 
 -- a message that was seen stays as it is
 pub begun_seen : (now k : ℕ) (x : Message) → x.number < k → begun now k x ≡ x
-begun_seen now k x h = ap (λ (b : Bool). when (b && has_lifetime x) then renewed x.ssn (At (now + x.reliability.value)) x else x) (lt-leb k x.number h)
+begun_seen now k x h = ap (λ (b : Bool). when (b && has_lifetime x) then renewed x.ssn (Some (now + x.reliability.value)) x else x) (lt-leb k x.number h)
 
 pub bare_started : (now k : ℕ) (c : Chunk) → bare (started now k c) ≡ bare c
 bare_started now k c =

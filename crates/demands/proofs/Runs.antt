@@ -12,12 +12,8 @@ use borrow.Author.Tests.{eqb-true, eqb-false, eq-eqb}
 use Rattle.limits.specs.Limits.{Room}
 use Rattle.model.specs.declared.Chunk.{Chunk}
 use Rattle.model.specs.declared.Message.{Message}
-use Rattle.model.specs.declared.Lane.{Lane}
-use Rattle.model.specs.declared.Lane.TheVariants.{Unordered, Ordered}
-use Rattle.model.specs.declared.UnderWay.{UnderWay}
-use Rattle.model.specs.declared.UnderWay.TheVariants.{Idle, Sending}
+use Rattle.model.specs.State.{Lane, Unordered, Ordered, UnderWay, Idle, Sending, Sender, at, is_of}
 use Rattle.model.specs.Lists.{when◌then◌else◌, keep}
-use Rattle.model.specs.State.{Sender, at, is_of}
 use Rattle.model.specs.Rings.{head_lane, head}
 use Rattle.demands.specs.Words.{behind, Each, Waits, number_of_head, number_under_way}
 use Rattle.demands.specs.States.{Contiguous, Ascending, drop_run, Has}

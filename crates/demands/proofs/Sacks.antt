@@ -13,7 +13,6 @@ use borrow.Author.Tests.{eq-eqb, leb-true}
 use Rattle.limits.specs.Limits.{Room, tsns}
 use Rattle.model.specs.declared.Block.{Block}
 use Rattle.model.specs.declared.Chunk.{Chunk}
-use Rattle.model.specs.declared.Found.{Found}
 use Rattle.model.specs.Lists.{adjust, total}
 use Rattle.model.specs.State.{Sender, with_entries, place, in_flight, Out}
 use Rattle.model.specs.Rings.{bytes}
@@ -23,6 +22,7 @@ use Rattle.model.specs.Sack.{within, all_within}
 use Rattle.model.specs.Sacks.{covered, tsns_from, acknowledged_and_popped, block_calls, bytes_in}
 use Rattle.demands.specs.Sacks.{gapped, Accepted}
 use Rattle.demands.proofs.Gaps.{acks, block_range, no_gaps, more_gaps}
+use Rattle.std.specs.Prelude.{Some}
 
 pub record Goes (room : Room) (ks : List Call) (s s' : Sender) : Type 0 where
   pub after : run room ks s ≡ s'
@@ -141,7 +141,7 @@ module _ (room : Room) (base : Sender) where
 
   -- ---- the covered prefix
 
-  pop_step : (o : ℕ) (c : Chunk) (l : List Chunk) → step room (Pop o) (state o (c ∷ l)) ≡ record { after = state ((o + 1) % tsns) l; says = to_find (Found.One c) }
+  pop_step : (o : ℕ) (c : Chunk) (l : List Chunk) → step room (Pop o) (state o (c ∷ l)) ≡ record { after = state ((o + 1) % tsns) l; says = to_find (Some c) }
   unfolding pop
   pop_step o c l = rw (eq-eqb o o refl)
 

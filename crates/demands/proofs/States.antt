@@ -9,13 +9,9 @@ use lib.Dec.{eqb}
 use borrow.Author.Tests.{ne_eqb}
 use Rattle.limits.specs.Limits.{Room}
 use Rattle.model.specs.declared.Chunk.{Chunk}
-use Rattle.model.specs.declared.Lane.{Lane}
-use Rattle.model.specs.declared.Lane.TheVariants.{Unordered, Ordered}
-use Rattle.model.specs.declared.UnderWay.{UnderWay}
-use Rattle.model.specs.declared.UnderWay.TheVariants.{Idle, Sending}
+use Rattle.model.specs.State.{Lane, Unordered, Ordered, UnderWay, Idle, Sending, Sender, fresh, at, lane_of}
 use Rattle.model.specs.declared.Stream.{Stream}
 use Rattle.model.specs.Lists.{some_of}
-use Rattle.model.specs.State.{Sender, fresh, at, lane_of}
 use Rattle.model.specs.Streams.{find}
 use Rattle.model.specs.Rings.{lane_ahead, head_lane}
 use Rattle.model.specs.Calls.{yes_no, run}

@@ -11,7 +11,6 @@ use lib.ListN.{length, drop, get_elem?, length-append, length-map, length-drop, 
 use lib.Seq.{drop-length, drop_at, drop-append_seam}
 use Rattle.limits.specs.Limits.{Room, tsns}
 use Rattle.model.specs.declared.Chunk.{Chunk}
-use Rattle.model.specs.declared.Sent.{Sent}
 use Rattle.model.specs.Lists.{adjust, last}
 use Rattle.model.specs.State.{Sender, Out, fresh, next_tsn, place, in_flight, with_pending}
 use Rattle.model.specs.Rings.{sent_at, given_up, terminator, terminators, pending_of, compacted, send, without}
@@ -20,6 +19,7 @@ use Rattle.model.specs.Calls.{Call, Answer, step, run, yielded}
 use Rattle.demands.specs.Words.{abandons, files, files_of, closing}
 use Rattle.demands.specs.Demand3.{TsnsTaken}
 use Rattle.demands.proofs.Views.{Does, does, streams_only, writes, starts, sends, abandons_it, expires_tail, expires_whole, acks, pops, marks, send_yields}
+use Rattle.std.specs.Prelude.{Some, Ok}
 
 pub length_adjust : (g : Chunk → Chunk) (i : ℕ) (l : List Chunk) → length (adjust g i l) ≡ length l
 length_adjust g i [] = refl
@@ -133,7 +133,7 @@ get_end (c ∷ f) y = get_end f y
 newest : (oldest n : ℕ) → oldest < tsns → n < tsns → ((oldest + n) % tsns + tsns - oldest) % tsns ≡ n
 newest oldest n h k = omega arith
 
-pub yield_found : (room : Room) (s : Sender) → room.flight ≤ tsns → s.flight.oldest < tsns → (now tsn : ℕ) (y : Chunk) → (send room now s).says ≡ Sent.Yielded tsn y
+pub yield_found : (room : Room) (s : Sender) → room.flight ≤ tsns → s.flight.oldest < tsns → (now tsn : ℕ) (y : Chunk) → (send room now s).says ≡ Ok (Some (tsn, y))
     → ((send room now s).after.flight.entries ≡ s.flight.entries ++ (y ∷ [])) × (in_flight tsn (send room now s).after.flight ≡ some y)
 yield_found room s h o now tsn y e =
     let f : List Chunk = s.flight.entries in

@@ -13,12 +13,8 @@ use borrow.Author.Tests.{eqb-true, eqb-false, eq-eqb, ne_eqb, leb-false, leb-tru
 use Rattle.limits.specs.Limits.{Room}
 use Rattle.model.specs.declared.Chunk.{Chunk}
 use Rattle.model.specs.declared.Message.{Message}
-use Rattle.model.specs.declared.Lane.{Lane}
-use Rattle.model.specs.declared.Lane.TheVariants.{Unordered, Ordered}
-use Rattle.model.specs.declared.UnderWay.{UnderWay}
-use Rattle.model.specs.declared.UnderWay.TheVariants.{Idle, Sending}
+use Rattle.model.specs.State.{Lane, Unordered, Ordered, UnderWay, Idle, Sending, Sender, Pending, Numbers, fresh, with_pending, at, in_rings, with_ring, is_of}
 use Rattle.model.specs.Lists.{when◌then◌else◌, keep, first, last, adjust}
-use Rattle.model.specs.State.{Sender, Pending, Numbers, fresh, with_pending, at, in_rings, with_ring, is_of}
 use Rattle.model.specs.Records.{blank_message, blank_chunk}
 use Rattle.model.specs.Messages.{cut, number_after}
 use Rattle.model.specs.Rings.{lane_ahead, head_lane, head, begun, started, lowered, sent_at, under_way_after, pending_of, ended, without, compacted, marked, given_up, terminator, terminators}
@@ -145,7 +141,7 @@ FlightFits room Idle n = n ≤ room.flight
 FlightFits room (Sending l) n = suc n ≤ room.flight
 
 -- of what is under way, the rings, the flight and the numbers
-pub record Ok (room : Room) (w : UnderWay) (q : Lane → List Chunk) (f : List Chunk) (k : Numbers) : Type 0 where
+pub record Sound (room : Room) (w : UnderWay) (q : Lane → List Chunk) (f : List Chunk) (k : Numbers) : Type 0 where
   pub fate : ℕ → Fate
   -- what the chunks of a number share
   pub sheet : ℕ → Message
@@ -159,34 +155,34 @@ pub record Ok (room : Room) (w : UnderWay) (q : Lane → List Chunk) (f : List C
   pub ring_fits : (l : Lane) → length (q l) ≤ room.ring
   pub flight_fits : FlightFits room w (length f)
 
-abbrev LastOf : {room : Room} {w : UnderWay} {q : Lane → List Chunk} {f : List Chunk} {k : Numbers} → Ok room w q f k → Type 0
+abbrev LastOf : {room : Room} {w : UnderWay} {q : Lane → List Chunk} {f : List Chunk} {k : Numbers} → Sound room w q f k → Type 0
 LastOf {k = k} v = Last v.fate v.sheet k.unstarted v.last.message
 
 abbrev pub Valid : Room → Sender → Type 0
-Valid room s = Ok room s.pending.under_way (λ l. at l s.pending) s.flight.entries s.numbers
+Valid room s = Sound room s.pending.under_way (λ l. at l s.pending) s.flight.entries s.numbers
 
 -- it is kept, and what was over stays over
-pub record Step {room : Room} {w : UnderWay} {q : Lane → List Chunk} {f : List Chunk} {k : Numbers} (v : Ok room w q f k)
+pub record Step {room : Room} {w : UnderWay} {q : Lane → List Chunk} {f : List Chunk} {k : Numbers} (v : Sound room w q f k)
     (w' : UnderWay) (q' : Lane → List Chunk) (f' : List Chunk) (k' : Numbers) : Type 0 where
-  pub ok : Ok room w' q' f' k'
+  pub ok : Sound room w' q' f' k'
   pub stays : (n : ℕ) → v.fate n ≡ over → ok.fate n ≡ over
 
 -- .. and one message is over then
-abbrev pub Ends : {room : Room} {w : UnderWay} {q : Lane → List Chunk} {f : List Chunk} {k : Numbers} → Ok room w q f k → ℕ → UnderWay → (Lane → List Chunk) → List Chunk → Numbers → Type 0
+abbrev pub Ends : {room : Room} {w : UnderWay} {q : Lane → List Chunk} {f : List Chunk} {k : Numbers} → Sound room w q f k → ℕ → UnderWay → (Lane → List Chunk) → List Chunk → Numbers → Type 0
 Ends v n w' q' f' k' = (s : Step v w' q' f' k') × (s.ok.fate n ≡ over)
 
 -- the same, to rings as the state has them
-abbrev pub StepTo : {room : Room} {w : UnderWay} {q : Lane → List Chunk} {f : List Chunk} {k : Numbers} → Ok room w q f k → Pending → List Chunk → Numbers → Type 0
+abbrev pub StepTo : {room : Room} {w : UnderWay} {q : Lane → List Chunk} {f : List Chunk} {k : Numbers} → Sound room w q f k → Pending → List Chunk → Numbers → Type 0
 StepTo v p = Step v p.under_way (λ l. at l p)
 
-abbrev pub EndsTo : {room : Room} {w : UnderWay} {q : Lane → List Chunk} {f : List Chunk} {k : Numbers} → Ok room w q f k → ℕ → Pending → List Chunk → Numbers → Type 0
+abbrev pub EndsTo : {room : Room} {w : UnderWay} {q : Lane → List Chunk} {f : List Chunk} {k : Numbers} → Sound room w q f k → ℕ → Pending → List Chunk → Numbers → Type 0
 EndsTo v n p = Ends v n p.under_way (λ l. at l p)
 
 -- .. and to a sender
-abbrev pub StepIn : {room : Room} {w : UnderWay} {q : Lane → List Chunk} {f : List Chunk} {k : Numbers} → Ok room w q f k → Sender → Type 0
+abbrev pub StepIn : {room : Room} {w : UnderWay} {q : Lane → List Chunk} {f : List Chunk} {k : Numbers} → Sound room w q f k → Sender → Type 0
 StepIn v s = StepTo v s.pending s.flight.entries s.numbers
 
-abbrev pub EndsIn : {room : Room} {w : UnderWay} {q : Lane → List Chunk} {f : List Chunk} {k : Numbers} → Ok room w q f k → ℕ → Sender → Type 0
+abbrev pub EndsIn : {room : Room} {w : UnderWay} {q : Lane → List Chunk} {f : List Chunk} {k : Numbers} → Sound room w q f k → ℕ → Sender → Type 0
 EndsIn v n s = EndsTo v n s.pending s.flight.entries s.numbers
 
 pub valid_fresh : (room : Room) (t n : ℕ) → Valid room (fresh t n)
@@ -205,7 +201,7 @@ valid_fresh room t n =
     }
 
 -- a number with a fate was given out
-pub given_out : {room : Room} {w : UnderWay} {q : Lane → List Chunk} {f : List Chunk} {k : Numbers} (v : Ok room w q f k) (n : ℕ) → 1 ≤ rank (v.fate n) → n < k.next
+pub given_out : {room : Room} {w : UnderWay} {q : Lane → List Chunk} {f : List Chunk} {k : Numbers} (v : Sound room w q f k) (n : ℕ) → 1 ≤ rank (v.fate n) → n < k.next
 given_out {k = k} v n h =
     bool_case (λ b. leb k.next n ≡ b → n < k.next) (leb k.next n)
     (λ _ e. absurd (omega (arith, ap rank (v.unused_from n (leb-true k.next n e))))) (λ _ e. leb-false k.next n e) refl
@@ -291,7 +287,7 @@ fits_less : (room : Room) (w : UnderWay) (n : ℕ) → FlightFits room w (suc n)
 fits_less room Idle n h = omega arith
 fits_less room (Sending l) n h = omega arith
 
-module _ {room : Room} {w : UnderWay} {q : Lane → List Chunk} {f : List Chunk} {k : Numbers} (v : Ok room w q f k) where
+module _ {room : Room} {w : UnderWay} {q : Lane → List Chunk} {f : List Chunk} {k : Numbers} (v : Sound room w q f k) where
   -- the flight is g instead
   flight_is : (g : List Chunk) → Each (Entry v.fate v.sheet k.unstarted) g → Contiguous (last_number w v.last) g → FlightFits room w (length g) → Step v w q g k
   flight_is g a b d =
@@ -340,11 +336,11 @@ module _ {room : Room} {w : UnderWay} {q : Lane → List Chunk} {f : List Chunk}
 -- ---- the head
 
 -- the ring of the message under way
-pub own_ring : {room : Room} {l : Lane} {q : Lane → List Chunk} {f : List Chunk} {k : Numbers} (v : Ok room (Sending l) q f k) → Ring (Waiting v.fate v.sheet l) (some v.last) 0 (q l)
+pub own_ring : {room : Room} {l : Lane} {q : Lane → List Chunk} {f : List Chunk} {k : Numbers} (v : Sound room (Sending l) q f k) → Ring (Waiting v.fate v.sheet l) (some v.last) 0 (q l)
 own_ring {l = l} {q} v = subst (λ (o : Option Chunk). Ring (Waiting v.fate v.sheet l) o 0 (q l)) (want_own l v.last false) (v.rings l)
 
 -- its number is that of the last sent fragment
-pub number_is_lem : {room : Room} {w : UnderWay} {q : Lane → List Chunk} {f : List Chunk} {k : Numbers} (v : Ok room w q f k)
+pub number_is_lem : {room : Room} {w : UnderWay} {q : Lane → List Chunk} {f : List Chunk} {k : Numbers} (v : Sound room w q f k)
     → number_of_head w (first (q (lane_ahead w (q Unordered)))) ≡ last_number w v.last
 number_is_lem {w = Idle} v = refl
 number_is_lem {w = Sending l} {q} v = go (q l) (own_ring v)
@@ -370,13 +366,13 @@ pub record Continues (w : UnderWay) (x : Fate) (l : Lane) (p c : Chunk) : Type 0
   pub sends : x ≡ sending
 
 -- c is in front of the ring l, from which a send takes, and x is behind it
-pub record Front {room : Room} {w : UnderWay} {q : Lane → List Chunk} {f : List Chunk} {k : Numbers} (v : Ok room w q f k) (l : Lane) (c : Chunk) (x : List Chunk) : Type 0 where
+pub record Front {room : Room} {w : UnderWay} {q : Lane → List Chunk} {f : List Chunk} {k : Numbers} (v : Sound room w q f k) (l : Lane) (c : Chunk) (x : List Chunk) : Type 0 where
   pub kind : Starts w (v.fate c.message.number) l c ⊎ Continues w (v.fate c.message.number) l v.last c
   pub filed : c.message ≡ v.sheet c.message.number
   pub behind : Ring (Waiting v.fate v.sheet l) (behind c) (suc c.message.number) x
   pub beside : Ring (Waiting v.fate v.sheet (other l)) none 0 (q (other l))
 
-front_at : {room : Room} {w : UnderWay} {q : Lane → List Chunk} {f : List Chunk} {k : Numbers} (v : Ok room w q f k) (l : Lane) (c : Chunk) (x : List Chunk)
+front_at : {room : Room} {w : UnderWay} {q : Lane → List Chunk} {f : List Chunk} {k : Numbers} (v : Sound room w q f k) (l : Lane) (c : Chunk) (x : List Chunk)
     → Fronts w l → q l ≡ c ∷ x → Front v l c x
 front_at {w = Idle} v l c x h e =
     let r : Ring (Waiting v.fate v.sheet l) none 0 (c ∷ x) = subst (Ring (Waiting v.fate v.sheet l) none 0) e (v.rings l) in
@@ -399,7 +395,7 @@ head_fronts Idle u = tt
 head_fronts (Sending l) u = refl
 
 -- what is known of the head
-pub front : {room : Room} {w : UnderWay} {q : Lane → List Chunk} {f : List Chunk} {k : Numbers} (v : Ok room w q f k) (c : Chunk) → first (q (lane_ahead w (q Unordered))) ≡ some c
+pub front : {room : Room} {w : UnderWay} {q : Lane → List Chunk} {f : List Chunk} {k : Numbers} (v : Sound room w q f k) (c : Chunk) → first (q (lane_ahead w (q Unordered))) ≡ some c
     → (x : List Chunk) × (q (lane_ahead w (q Unordered)) ≡ c ∷ x) × Front v (lane_ahead w (q Unordered)) c x
 front {w = w} {q} v c e = go (q (lane_ahead w (q Unordered))) refl e
   where
@@ -409,7 +405,7 @@ front {w = w} {q} v c e = go (q (lane_ahead w (q Unordered))) refl e
         let b : q (lane_ahead w (q Unordered)) ≡ c ∷ x = cc in
         (x, b, front_at v (lane_ahead w (q Unordered)) c x (head_fronts w (q Unordered)) b)
 
-module _ {room : Room} {w : UnderWay} {q : Lane → List Chunk} {f : List Chunk} {k : Numbers} (v : Ok room w q f k) (c : Chunk) (e : first (q (lane_ahead w (q Unordered))) ≡ some c) where
+module _ {room : Room} {w : UnderWay} {q : Lane → List Chunk} {f : List Chunk} {k : Numbers} (v : Sound room w q f k) (c : Chunk) (e : first (q (lane_ahead w (q Unordered))) ≡ some c) where
   -- a first fragment starts a message
   pub starts : c.beginning ≡ true → Starts w (v.fate c.message.number) (lane_ahead w (q Unordered)) c
   starts b = go (front v c e).2.kind
@@ -444,7 +440,7 @@ module _ {room : Room} {w : UnderWay} {q : Lane → List Chunk} {f : List Chunk}
 abbrev pub fate_after : (ending : Bool) → Fate
 fate_after e = when e then over else sending
 
-module _ {room : Room} {w : UnderWay} {q : Lane → List Chunk} {f : List Chunk} {k : Numbers} (v : Ok room w q f k) (l : Lane) (c : Chunk) (x : List Chunk) (fr : Front v l c x) where
+module _ {room : Room} {w : UnderWay} {q : Lane → List Chunk} {f : List Chunk} {k : Numbers} (v : Sound room w q f k) (l : Lane) (c : Chunk) (x : List Chunk) (fr : Front v l c x) where
   abbrev m : ℕ
   m = c.message.number
 
@@ -515,7 +511,7 @@ module _ {room : Room} {w : UnderWay} {q : Lane → List Chunk} {f : List Chunk}
       later e (inr z) = if-case (λ (y : Fate). Flew y e) c.ending (λ _. inl refl) (λ _. inr (refl, z.1))
 
 -- the head goes to the flight
-pub take_core : {room : Room} {f : List Chunk} {k : Numbers} (p : Pending) (v : Ok room p.under_way (λ l. at l p) f k) (c : Chunk) (x : List Chunk) (now : ℕ)
+pub take_core : {room : Room} {f : List Chunk} {k : Numbers} (p : Pending) (v : Sound room p.under_way (λ l. at l p) f k) (c : Chunk) (x : List Chunk) (now : ℕ)
     → at (head_lane p) p ≡ c ∷ x → k.next ≤ k.unstarted → suc (length f) < room.flight
     → StepTo v (with_ring (head_lane p) (under_way_after (head_lane p) c) x p) (f ++ (sent_at now c ∷ [])) k
 take_core {f = f} {k} p v c x now e seen h = go (head_lane p) (head_fronts p.under_way p.unordered) e
@@ -541,7 +537,7 @@ number_map : (h : Chunk → Chunk) (w : UnderWay) (p : Chunk) → (h p).message.
 number_map h Idle p e = refl
 number_map h (Sending l) p e = ap some e
 
-start_at : {room : Room} {w : UnderWay} {q : Lane → List Chunk} {f : List Chunk} {k : Numbers} (v : Ok room w q f k) (now : ℕ) (q' : Lane → List Chunk)
+start_at : {room : Room} {w : UnderWay} {q : Lane → List Chunk} {f : List Chunk} {k : Numbers} (v : Sound room w q f k) (now : ℕ) (q' : Lane → List Chunk)
     → ((l : Lane) → q' l ≡ map (started now k.unstarted) (q l)) → Step v w q' f (record { next = k.next; unstarted = k.next })
 start_at {room} {w} {q} {f} {k} v now q' e =
     let u : ℕ = k.unstarted in
@@ -580,7 +576,7 @@ at_rings : (h : List Chunk → List Chunk) (p : Pending) (l : Lane) → at l (in
 at_rings h p Unordered = refl
 at_rings h p Ordered = refl
 
-pub start_core : {room : Room} {f : List Chunk} {k : Numbers} (p : Pending) (v : Ok room p.under_way (λ l. at l p) f k) (now : ℕ)
+pub start_core : {room : Room} {f : List Chunk} {k : Numbers} (p : Pending) (v : Sound room p.under_way (λ l. at l p) f k) (now : ℕ)
     → StepTo v (in_rings (map (started now k.unstarted)) p) f (record { next = k.next; unstarted = k.next })
 start_core {k = k} p v now = start_at v now (λ l. at l (in_rings (map (started now k.unstarted)) p)) (at_rings (map (started now k.unstarted)) p)
 
@@ -593,7 +589,7 @@ want_floor (Sending Unordered) p Ordered n h = omega arith
 want_floor (Sending Ordered) p Unordered n h = omega arith
 want_floor (Sending Ordered) p Ordered n h = h
 
-module _ {room : Room} {w : UnderWay} {q : Lane → List Chunk} {f : List Chunk} {k : Numbers} (v : Ok room w q f k) (l : Lane) (x : Message) (n m off len : ℕ) (num : x.number ≡ k.next) where
+module _ {room : Room} {w : UnderWay} {q : Lane → List Chunk} {f : List Chunk} {k : Numbers} (v : Sound room w q f k) (l : Lane) (x : Message) (n m off len : ℕ) (num : x.number ≡ k.next) where
   -- a number with a fate keeps it, and what its chunks share
   used : (i : ℕ) → 1 ≤ rank (v.fate i) → i ≢ k.next
   used i h e = omega (arith, given_out v i h)
@@ -642,7 +638,7 @@ same_ring Unordered p = ap (λ (x : List Chunk). record { under_way = p.under_wa
 same_ring Ordered p = ap (λ (x : List Chunk). record { under_way = p.under_way; unordered = p.unordered; ordered = x }) (append-nil p.ordered)
 
 -- a message's fragments join the back of a ring
-pub push_core : {room : Room} {f : List Chunk} {k : Numbers} (p : Pending) (v : Ok room p.under_way (λ l. at l p) f k) (l : Lane) (x : Message) (n m off len : ℕ)
+pub push_core : {room : Room} {f : List Chunk} {k : Numbers} (p : Pending) (v : Sound room p.under_way (λ l. at l p) f k) (l : Lane) (x : Message) (n m off len : ℕ)
     → x.number ≡ k.next → length (at l p) + n ≤ room.ring → StepTo v (with_ring l p.under_way (at l p ++ cut x true n m off len) p) f (number_after n k)
 push_core {f = f} {k} p v l x zero m off len num h = subst (λ (o : Pending). StepTo v o f k) (sym (same_ring l p)) (record { ok = v; stays = λ n e. e })
 push_core p v Unordered x (suc n) m off len num h =
@@ -668,7 +664,7 @@ ended_idle n none = refl
 ended_idle n (some c) = if-case (λ (w : UnderWay). w ≡ Idle) (is_of n c) (λ _. refl) (λ _. refl)
 
 -- the message under way is the head's
-pub ended_is : {room : Room} {w : UnderWay} {q : Lane → List Chunk} {f : List Chunk} {k : Numbers} (v : Ok room w q f k) (n : ℕ)
+pub ended_is : {room : Room} {w : UnderWay} {q : Lane → List Chunk} {f : List Chunk} {k : Numbers} (v : Sound room w q f k) (n : ℕ)
     → ended n (first (q (lane_ahead w (q Unordered)))) w ≡ leave n v.last w
 ended_is {w = Idle} {q} v n = ended_idle n (first (q (lane_ahead Idle (q Unordered))))
 ended_is {w = Sending l} {q} v n = go (q l) (own_ring v)
@@ -677,7 +673,7 @@ ended_is {w = Sending l} {q} v n = go (q l) (own_ring v)
     go [] r = absurd r
     go (c ∷ x) r = ap (λ (m : ℕ). when eqb m n then Idle else Sending l) (number_follows r.0)
 
-module _ {room : Room} {w : UnderWay} {q : Lane → List Chunk} {f : List Chunk} {k : Numbers} (v : Ok room w q f k) (n : ℕ) where
+module _ {room : Room} {w : UnderWay} {q : Lane → List Chunk} {f : List Chunk} {k : Numbers} (v : Sound room w q f k) (n : ℕ) where
   -- it is over, and the flight is g
   remove_at : 1 ≤ rank (v.fate n) → (q' : Lane → List Chunk) → ((l : Lane) → q' l ≡ keep (λ d. not (is_of n d)) (q l)) → (g : List Chunk)
       → Each (Entry (upd v.fate n over) v.sheet k.unstarted) g → Contiguous (last_number (leave n v.last w) v.last) g
@@ -716,7 +712,7 @@ module _ {room : Room} {w : UnderWay} {q : Lane → List Chunk} {f : List Chunk}
 
 -- ---- an unsent message expires
 
-pub remove_core : {room : Room} {f : List Chunk} {k : Numbers} (p : Pending) (v : Ok room p.under_way (λ l. at l p) f k) (n : ℕ)
+pub remove_core : {room : Room} {f : List Chunk} {k : Numbers} (p : Pending) (v : Sound room p.under_way (λ l. at l p) f k) (n : ℕ)
     → p.under_way ≡ Idle → 1 ≤ rank (v.fate n) → EndsTo v n (without n p) f k
 remove_core {room} {f} {k} p v n e h =
     let same : leave n v.last p.under_way ≡ p.under_way = ap (leave n v.last) e ∙ sym e in
@@ -732,7 +728,7 @@ sheet_lowered id (waits Ordered) x = lower id x
 sheet_lowered id sending x = x
 sheet_lowered id over x = x
 
-lower_at : {room : Room} {w : UnderWay} {q : Lane → List Chunk} {f : List Chunk} {k : Numbers} (v : Ok room w q f k) (id : ℕ) (q' : Lane → List Chunk)
+lower_at : {room : Room} {w : UnderWay} {q : Lane → List Chunk} {f : List Chunk} {k : Numbers} (v : Sound room w q f k) (id : ℕ) (q' : Lane → List Chunk)
     → w ≡ Idle → q' Ordered ≡ map (lowered id) (q Ordered) → q' Unordered ≡ q Unordered → Step v w q' f k
 lower_at {w = Sending l} v id q' idle e d = let z : ◌≡◌ {A = ℕ} 0 1 = cc in absurd (omega arith)
 lower_at {room} {w = Idle} {q} {f} {k} v id q' idle e d =
@@ -807,7 +803,7 @@ not_want w p n l h = want_on (λ x. eqb x.number n ≡ false) w p l (go w h)
     go Idle h = tt
     go (Sending l) h = ne_eqb p.message.number n (λ e. h (ap some e))
 
-module _ {room : Room} {w : UnderWay} {q : Lane → List Chunk} {f : List Chunk} {k : Numbers} (v : Ok room w q f k) where
+module _ {room : Room} {w : UnderWay} {q : Lane → List Chunk} {f : List Chunk} {k : Numbers} (v : Sound room w q f k) where
   -- the pending chunks of a number share what its sheet says
   pub sheets : (l : Lane) → Each (λ c. c.message ≡ v.sheet c.message.number) (q l)
   sheets l =
@@ -854,7 +850,7 @@ unsent n q = keep (is_of n) (q Ordered) ++ keep (is_of n) (q Unordered)
 abbrev given_up_all : ℕ → (Lane → List Chunk) → List Chunk → List Chunk
 given_up_all n q f = map (given_up n) f ++ terminators (last (unsent n q))
 
-module _ {room : Room} {w : UnderWay} {q : Lane → List Chunk} {f : List Chunk} {k : Numbers} (v : Ok room w q f k) (n : ℕ) (h : Begun (v.fate n))
+module _ {room : Room} {w : UnderWay} {q : Lane → List Chunk} {f : List Chunk} {k : Numbers} (v : Sound room w q f k) (n : ℕ) (h : Begun (v.fate n))
     (q' : Lane → List Chunk) (e : (l : Lane) → q' l ≡ keep (λ d. not (is_of n d)) (q l)) where
   marks : Alike f (map (given_up n) f)
   marks = alike_map (given_up n) (like_given_up n) f
@@ -918,7 +914,7 @@ module _ {room : Room} {w : UnderWay} {q : Lane → List Chunk} {f : List Chunk}
           go Ordered r = let z = leads Ordered (q Ordered) r in rw z.2 (last_behind [] (z.1 ++ keep (is_of n) (q Unordered)) z.0)
           go Unordered r = let z = leads Unordered (q Unordered) r in rw z.2 (last_behind (keep (is_of n) (q Ordered)) z.1 z.0)
 
-pub abandon_core : {room : Room} {f : List Chunk} {k : Numbers} (p : Pending) (v : Ok room p.under_way (λ l. at l p) f k) (n : ℕ) → Begun (v.fate n)
+pub abandon_core : {room : Room} {f : List Chunk} {k : Numbers} (p : Pending) (v : Sound room p.under_way (λ l. at l p) f k) (n : ℕ) → Begun (v.fate n)
     → EndsTo v n (without n p) (map (given_up n) f ++ terminators (last (pending_of n p))) k
 abandon_core {f = f} {k} p v n h = subst Goal (sym (ended_is v n)) (go p.under_way refl)
   where

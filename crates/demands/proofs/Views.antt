@@ -1,7 +1,7 @@
 -- What a call can come to: one constructor for each outcome, so that a law of all calls is proved by matching.
 use Prim.Native.Nat.{ℕ, suc, ◌+◌, ◌%◌, ◌^◌, ◌≤◌, ◌<◌}
 use native.Mathlib.Omega.{arith}
-use mathlib.Core.Path.{◌≡◌, refl}
+use mathlib.Core.Path.{ap, ◌≡◌, refl}
 use mathlib.Core.Bool.{Bool, true, false, not, ◌&&◌}
 use mathlib.Core.Option.{Option, none, some}
 use mathlib.Core.List.{List, [], ◌∷◌, map}
@@ -10,16 +10,8 @@ use lib.Dec.{eqb, leb, ltb}
 use lib.IntN.{ℤ}
 use borrow.Author.Tests.{ltb-false, leb-false}
 use Rattle.limits.specs.Limits.{Room, clock_max, offset_max, buffered_max, number_max, payload_max, tsns}
-use Rattle.limits.specs.Refusals.{beyond_limit}
-use Rattle.model.specs.declared.Abandoned.{Abandoned}
 use Rattle.model.specs.declared.Chunk.{Chunk}
-use Rattle.model.specs.declared.Done.{Done}
-use Rattle.model.specs.declared.Expired.{Expired}
-use Rattle.model.specs.declared.Found.{Found}
-use Rattle.model.specs.declared.Sent.{Sent}
 use Rattle.model.specs.declared.Stream.{Stream}
-use Rattle.model.specs.declared.TailExpired.{TailExpired}
-use Rattle.model.specs.declared.Written.{Written}
 use Rattle.model.specs.Lists.{when◌then◌else◌, adjust}
 use Rattle.model.specs.State.{Sender, Pending, Out, same, with_streams, with_pending, with_entries, at, lane_of, next_tsn, place, in_flight}
 use Rattle.model.specs.Streams.{find, open_stream, open_new, changed, set_reliability, set_low, set_high, release, releasing}
@@ -54,6 +46,9 @@ use Rattle.demands.specs.Words.{abandons, abandons_entry, expires_message, passi
 use Rattle.demands.specs.Numbers.{Typed, StreamFits}
 use Rattle.demands.proofs.Basic.{if-case, bool_case}
 use Rattle.demands.proofs.Tables.{Table, table_same, table_put, table_open, delivering_fits, thresholds_fit, reduced_fits}
+use Rattle.std.specs.Prelude.{Some, None, Ok, Err}
+use Rattle.limits.specs.declared.Refusal.TheVariants.{BeyondLimit}
+use Rattle.model.specs.Answers.{Written, did, expired_message, expired_rest, abandoned_message}
 
 -- an answer that yields nothing
 abbrev pub Quiet : Answer → Type 0
@@ -79,11 +74,11 @@ pub data Does (room : Room) (k : Call) (s : Sender) : Out Answer → Option ℕ 
   -- nothing pending or in flight changes
   streams_only : (a : Answer) (l : List Stream) → Quiet a → Table room k s.streams l → Does room k s (record { after = with_streams l s; says = a }) none none false
   writes : (p o len : ℕ) (t : Stream) (h : Bool) → Accepts room k s p o len t
-      → Does room k s (record { after = accepted p o len t s; says = to_write (Written.Accepted h) }) none none (is_unordered p t)
+      → Does room k s (record { after = accepted p o len t s; says = to_write (Ok h) }) none none (is_unordered p t)
   starts : (now : ℕ) (a : Answer) → Quiet a → now ≤ clock_max → Does room k s (record { after = with_lifetimes now s; says = a }) none none false
   sends : (now : ℕ) (c : Chunk) (x : List Chunk) → now ≤ clock_max → at (head_lane (with_lifetimes now s).pending) (with_lifetimes now s).pending ≡ c ∷ x
       → suc (length s.flight.entries) < room.flight
-      → Does room k s (record { after = taken (head_lane (with_lifetimes now s).pending) now c x (with_lifetimes now s); says = to_send (Sent.Yielded (next_tsn s) (sent_at now c)) }) none none false
+      → Does room k s (record { after = taken (head_lane (with_lifetimes now s).pending) now c x (with_lifetimes now s); says = to_send (Ok (Some (next_tsn s, sent_at now c))) }) none none false
   abandons_it : (c : Chunk) (t : ℕ) (a : Answer) → Quiet a → in_flight t s.flight ≡ some c → c.abandoned ≡ false
       → Does room k s (record { after = abandoned c.message.number s; says = a }) (some c.message.number) none false
   expires_tail : (c : Chunk) (now : ℕ) (a : Answer) → Quiet a → head s.pending ≡ some c → tail_expires now c ≡ true
@@ -93,8 +88,8 @@ pub data Does (room : Room) (k : Call) (s : Sender) : Out Answer → Option ℕ 
       none (some c.message.number) false
   acks : (t : ℕ) (c : Chunk) (a : Answer) → Quiet a → in_flight t s.flight ≡ some c
       → Does room k s (record { after = with_entries (adjust acknowledged (place t s.flight) s.flight.entries) s; says = a }) none none false
-  pops : (c : Chunk) (f : List Chunk) → s.flight.entries ≡ c ∷ f → Does room k s (record { after = popped f s; says = to_find (Found.One c) }) none none false
-  marks : Does room k s (record { after = with_entries (map to_retransmit s.flight.entries) s; says = to_do Done.Done }) none none false
+  pops : (c : Chunk) (f : List Chunk) → s.flight.entries ≡ c ∷ f → Does room k s (record { after = popped f s; says = to_find (Some c) }) none none false
+  marks : Does room k s (record { after = with_entries (map to_retransmit s.flight.entries) s; says = to_do did }) none none false
 
 module _ (room : Room) (k : Call) (s : Sender) where
   abbrev Only : Out Answer → Type 0
@@ -171,33 +166,33 @@ module _ (room : Room) (k : Call) (s : Sender) where
       go none e = unchanged _ refl
       go (some c) e =
           let x = c.message in
-          bool_case (λ b. c.abandoned ≡ b → Does room k s (told to_abandon (when b then same (Abandoned.Message x.stream 0) s else record { after = abandoned x.number s; says = Abandoned.Message x.stream (held_by x.number s) })) (when b then none else some x.number) none false)
+          bool_case (λ b. c.abandoned ≡ b → Does room k s (told to_abandon (when b then same (abandoned_message x.stream 0) s else record { after = abandoned x.number s; says = abandoned_message x.stream (held_by x.number s) })) (when b then none else some x.number) none false)
           c.abandoned (λ _ _. unchanged _ refl) (λ _ h. abandons_it c t _ refl e h) refl
 
   tail_does : (now : ℕ) → Does room k s (told to_expire_tail (expire_pending_tail now s)) (when ltb clock_max now then none else passing (tail_expires now) (head s.pending)) none false
   unfolding expire_pending_tail
   tail_does now =
-      bool_case (λ b. Does room k s (told to_expire_tail (when b then same (TailExpired.Refused beyond_limit) s else tail_expiring (head s.pending) now s)) (when b then none else passing (tail_expires now) (head s.pending)) none false)
+      bool_case (λ b. Does room k s (told to_expire_tail (when b then same (Err BeyondLimit) s else tail_expiring (head s.pending) now s)) (when b then none else passing (tail_expires now) (head s.pending)) none false)
       (ltb clock_max now) (λ _. unchanged _ refl) (λ _. go (head s.pending) refl)
     where
       go : (x : Option Chunk) → head s.pending ≡ x → Does room k s (told to_expire_tail (tail_expiring x now s)) (passing (tail_expires now) x) none false
       go none e = unchanged _ refl
       go (some c) e =
           let x = c.message in
-          bool_case (λ b. tail_expires now c ≡ b → Does room k s (told to_expire_tail (when b then record { after = abandoned x.number s; says = TailExpired.Message x.stream x.number (held_by x.number s) } else same TailExpired.Nothing s)) (when b then some x.number else none) none false)
+          bool_case (λ b. tail_expires now c ≡ b → Does room k s (told to_expire_tail (when b then record { after = abandoned x.number s; says = expired_rest x.stream x.number (held_by x.number s) } else same (Ok None) s)) (when b then some x.number else none) none false)
           (tail_expires now c) (λ _ h. expires_tail c now _ refl e h) (λ _ _. unchanged _ refl) refl
 
   expire_does : (now : ℕ) → Does room k s (told to_expire (expire_pending now s)) none (when ltb clock_max now then none else passing (expires now) (head s.pending)) false
   unfolding expire_pending
   expire_does now =
-      bool_case (λ b. Does room k s (told to_expire (when b then same (Expired.Refused beyond_limit) s else expiring (head s.pending) now s)) none (when b then none else passing (expires now) (head s.pending)) false)
+      bool_case (λ b. Does room k s (told to_expire (when b then same (Err BeyondLimit) s else expiring (head s.pending) now s)) none (when b then none else passing (expires now) (head s.pending)) false)
       (ltb clock_max now) (λ _. unchanged _ refl) (λ _. go (head s.pending) refl)
     where
       go : (x : Option Chunk) → head s.pending ≡ x → Does room k s (told to_expire (expiring x now s)) none (passing (expires now) x) false
       go none e = unchanged _ refl
       go (some c) e =
           let x = c.message in
-          bool_case (λ b. expires now c ≡ b → Does room k s (told to_expire (when b then record { after = compacted x.unordered x.stream (with_pending (without x.number s.pending) s); says = Expired.Message x.stream x.unordered (bytes (pending_of x.number s.pending)) } else same Expired.Nothing s)) none (when b then some x.number else none) false)
+          bool_case (λ b. expires now c ≡ b → Does room k s (told to_expire (when b then record { after = compacted x.unordered x.stream (with_pending (without x.number s.pending) s); says = expired_message x.stream x.unordered (bytes (pending_of x.number s.pending)) } else same (Ok None) s)) none (when b then some x.number else none) false)
           (expires now c) (λ _ h. expires_whole c now _ refl e h) (λ _ _. unchanged _ refl) refl
 
   ack_does : (t : ℕ) → Only (told number (acknowledge t s))
@@ -267,22 +262,22 @@ pub record Yields (room : Room) (s : Sender) (now tsn : ℕ) (y : Chunk) : Type 
   pub tsn_is : next_tsn s ≡ tsn
   pub after_is : (send room now s).after ≡ taken (head_lane (with_lifetimes now s).pending) now front others (with_lifetimes now s)
 
-pub send_yields : (room : Room) (s : Sender) (now tsn : ℕ) (y : Chunk) → (send room now s).says ≡ Sent.Yielded tsn y → Yields room s now tsn y
+pub send_yields : (room : Room) (s : Sender) (now tsn : ℕ) (y : Chunk) → (send room now s).says ≡ Ok (Some (tsn, y)) → Yields room s now tsn y
 unfolding send
 send_yields room s now tsn y = go (ltb clock_max now) refl
   where
     p : Pending
     p = (with_lifetimes now s).pending
 
-    go : (b : Bool) → ltb clock_max now ≡ b → (send room now s).says ≡ Sent.Yielded tsn y → Yields room s now tsn y
+    go : (b : Bool) → ltb clock_max now ≡ b → (send room now s).says ≡ Ok (Some (tsn, y)) → Yields room s now tsn y
     go true h q = let r = rw h at q in let z : ◌≡◌ {A = ℕ} 0 1 = cc in absurd (omega arith)
     go false h q = front (at (head_lane p) p) refl q
       where
-        front : (x : List Chunk) → at (head_lane p) p ≡ x → (send room now s).says ≡ Sent.Yielded tsn y → Yields room s now tsn y
+        front : (x : List Chunk) → at (head_lane p) p ≡ x → (send room now s).says ≡ Ok (Some (tsn, y)) → Yields room s now tsn y
         front [] e q = let r = rw (h, e) at q in let z : ◌≡◌ {A = ℕ} 0 1 = cc in absurd (omega arith)
         front (c ∷ x) e q = room_left (leb room.flight (suc (length s.flight.entries))) refl q
           where
-            room_left : (b : Bool) → leb room.flight (suc (length s.flight.entries)) ≡ b → (send room now s).says ≡ Sent.Yielded tsn y → Yields room s now tsn y
+            room_left : (b : Bool) → leb room.flight (suc (length s.flight.entries)) ≡ b → (send room now s).says ≡ Ok (Some (tsn, y)) → Yields room s now tsn y
             room_left true n q = let r = rw (h, e, n) at q in let z : ◌≡◌ {A = ℕ} 0 1 = cc in absurd (omega arith)
             room_left false n q =
                 record {
@@ -291,7 +286,7 @@ send_yields room s now tsn y = go (ltb clock_max now) refl
                   clock = ltb-false _ _ h;
                   stood = e;
                   fits = leb-false _ _ n;
-                  sent = let r = rw (h, e, n) at q in cc;
-                  tsn_is = let r = rw (h, e, n) at q in cc;
+                  sent = let r = rw (h, e, n) at q in let pair : (next_tsn s, sent_at now c) ≡ (tsn, y) = cc in ap (λ (p : ℕ × Chunk). p.1) pair;
+                  tsn_is = let r = rw (h, e, n) at q in let pair : (next_tsn s, sent_at now c) ≡ (tsn, y) = cc in ap (λ (p : ℕ × Chunk). p.0) pair;
                   after_is = rw (h, e, n);
                 }

@@ -12,12 +12,8 @@ use lib.Dec.{eqb, leb}
 use borrow.Author.Tests.{eqb-true, eqb-false, not-true, not-false}
 use Rattle.limits.specs.Limits.{Room}
 use Rattle.model.specs.declared.Chunk.{Chunk}
-use Rattle.model.specs.declared.Lane.{Lane}
-use Rattle.model.specs.declared.Lane.TheVariants.{Unordered, Ordered}
-use Rattle.model.specs.declared.UnderWay.{UnderWay}
-use Rattle.model.specs.declared.UnderWay.TheVariants.{Idle, Sending}
+use Rattle.model.specs.State.{Lane, Unordered, Ordered, UnderWay, Idle, Sending, Sender, Pending, Numbers, Out, at, lane_of, in_rings, with_ring, with_pending, place, is_of}
 use Rattle.model.specs.Lists.{when◌then◌else◌, keep}
-use Rattle.model.specs.State.{Sender, Pending, Numbers, Out, at, lane_of, in_rings, with_ring, with_pending, place, is_of}
 use Rattle.model.specs.Messages.{fragments, is_unordered}
 use Rattle.model.specs.Rings.{lane_ahead, head_lane, head, started, lowered, with_lifetimes, sent_at, under_way_after, ended, without, compacted, overdue}
 use Rattle.model.specs.Calls.{Call, Answer, step, yielded, yields_of}
@@ -27,7 +23,7 @@ use Rattle.demands.proofs.Each.{keep_shorter}
 use Rattle.demands.proofs.Lists.{at_ring, at_both, not_of, at_without}
 use Rattle.demands.proofs.Views.{Does, does, streams_only, writes, starts, sends, abandons_it, expires_tail, expires_whole, acks, pops, marks}
 use Rattle.demands.proofs.Ring.{waits_may, bare_started}
-use Rattle.demands.proofs.Valid.{Valid, Ok, Waiting, Begun, rank, want, leave, ended_is, ended_idle, continues, in_flight_lem, flew_begun}
+use Rattle.demands.proofs.Valid.{Valid, Sound, Waiting, Begun, rank, want, leave, ended_is, ended_idle, continues, in_flight_lem, flew_begun}
 use Rattle.demands.proofs.Valid as Invariant
 use Rattle.demands.proofs.Rest.{rest_pushed, rest_started, rest_without}
 use Rattle.demands.proofs.Steps.{keeps}
@@ -119,7 +115,7 @@ abbrev pub Admits : Lane → (unordered : Bool) → Type 0
 Admits Unordered b = Unit {0}
 Admits Ordered b = b ≡ false
 
-module _ {room : Room} {f : List Chunk} {k : Numbers} (p : Pending) (v : Ok room p.under_way (λ l. at l p) f k) where
+module _ {room : Room} {f : List Chunk} {k : Numbers} (p : Pending) (v : Sound room p.under_way (λ l. at l p) f k) where
   beside_pushed : (l : Lane) (b : Bool) → Admits l b → (x : List Chunk) → beside l (with_ring (lane_of b) p.under_way (at (lane_of b) p ++ x) p) ≤ beside l p
   beside_pushed Unordered true a x = le_refl _
   beside_pushed Unordered false a x =
@@ -137,7 +133,7 @@ module _ {room : Room} {f : List Chunk} {k : Numbers} (p : Pending) (v : Ok room
   beside_without Ordered m = keep_shorter (not_of m) p.unordered
   beside_without Unordered m = rw (ended_is v m) (go p.under_way v)
     where
-      go : (w : UnderWay) (v : Ok room w (λ l. at l p) f k) → ordered_rest (leave m v.last w) (keep (not_of m) p.ordered) ≤ ordered_rest w p.ordered
+      go : (w : UnderWay) (v : Sound room w (λ l. at l p) f k) → ordered_rest (leave m v.last w) (keep (not_of m) p.ordered) ≤ ordered_rest w p.ordered
       go Idle v = le_refl 0
       go (Sending l) v =
           let n : ℕ = v.last.message.number in

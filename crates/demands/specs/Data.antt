@@ -1,14 +1,11 @@
 -- The DATA chunk that is written of an entry: when it is, when it is refused, and that it reads back as the entry.
-use Rattle.std.specs.Prelude.{ℕ, ◌+◌, ◌≤◌, ◌<◌, ◌≡◌, true, List, ◌++◌, length, take, drop}
+use Rattle.std.specs.Prelude.{ℕ, ◌+◌, ◌≤◌, ◌<◌, ◌≡◌, true, List, ◌++◌, length, take, drop, Ok}
 use Rattle.std.proofs.Math.Option.{some}
 use Rattle.std.proofs.Common.{arith, length-append, length-drop, length-take-le}
 use Rattle.std.proofs.lemmas.List.{length-replicate}
 use Rattle.limits.specs.Limits.{Room, number_max, tsns}
-use Rattle.limits.specs.Refusals.{no_entry, payload_outside, output_short}
 use Rattle.octets.specs.Numbers.{zeros}
 use Rattle.model.specs.declared.Chunk.{Chunk}
-use Rattle.model.specs.declared.Data.{Data}
-use Rattle.model.specs.declared.Laid.{Laid}
 use Rattle.model.specs.State.{Sender, in_flight}
 use Rattle.model.specs.Messages.{flags}
 use Rattle.model.specs.Flight.{outstanding}
@@ -16,6 +13,8 @@ use Rattle.model.specs.Requests.{Request}
 use Rattle.model.specs.Data.{padding, data_header, payload_of, data_bytes, unwritten, data_chunk, read_data, payload_in}
 use Rattle.demands.specs.Words.{Each}
 use Rattle.demands.specs.Requests.{TypedRequest, served_from}
+use Rattle.limits.specs.declared.Refusal.TheVariants.{NoEntry, PayloadOutside, OutputShort}
+use Rattle.model.specs.Answers.{data_fields}
 
 -- the TSN's entry is in flight, and neither acknowledged nor abandoned
 pub record ToSend (tsn : ℕ) (s : Sender) (c : Chunk) : Type 0 where
@@ -40,18 +39,18 @@ module _ (tsn : ℕ) (c : Chunk) (bytes : List ℕ) (within : c.offset + c.lengt
 
 -- in any state, whatever is lent: exactly one of these is so, and a refusal leaves the output
 pub record DataIsWritten : Type 0 where
-  pub no_entry : (tsn : ℕ) (bytes out : List ℕ) (s : Sender) → ((c : Chunk) → ToSend tsn s c → ⊥) → data_chunk tsn bytes out s ≡ unwritten no_entry out
+  pub no_entry : (tsn : ℕ) (bytes out : List ℕ) (s : Sender) → ((c : Chunk) → ToSend tsn s c → ⊥) → data_chunk tsn bytes out s ≡ unwritten NoEntry out
   pub outside : (tsn : ℕ) (bytes out : List ℕ) (s : Sender) (c : Chunk) → ToSend tsn s c → length bytes < c.offset + c.length
-      → data_chunk tsn bytes out s ≡ unwritten payload_outside out
+      → data_chunk tsn bytes out s ≡ unwritten PayloadOutside out
   pub short : (tsn : ℕ) (bytes out : List ℕ) (s : Sender) (c : Chunk) → ToSend tsn s c → c.offset + c.length ≤ length bytes → length out < data_size c
-      → data_chunk tsn bytes out s ≡ unwritten output_short out
+      → data_chunk tsn bytes out s ≡ unwritten OutputShort out
   pub written : (tsn : ℕ) (bytes out : List ℕ) (s : Sender) (c : Chunk) → ToSend tsn s c → c.offset + c.length ≤ length bytes → data_size c ≤ length out
-      → data_chunk tsn bytes out s ≡ record { answer = Laid.Bytes (data_size c); out = data_bytes tsn c bytes ++ drop (data_size c) out }
+      → data_chunk tsn bytes out s ≡ record { answer = Ok (data_size c); out = data_bytes tsn c bytes ++ drop (data_size c) out }
 
 -- the n bytes in front of `after`, written over `before`, are the entry's chunk: TSN, stream, SSN, flags, type and payload read back; zeros stand
 -- behind the payload up to the n, and all behind these is as it was
 pub record ReadsBack (tsn : ℕ) (c : Chunk) (bytes before : List ℕ) (n : ℕ) (after : List ℕ) : Type 0 where
-  pub fields : read_data after ≡ Data.Chunk tsn c.message.stream c.message.ssn (flags c) c.message.protocol c.length
+  pub fields : read_data after ≡ data_fields tsn c.message.stream c.message.ssn (flags c) c.message.protocol c.length
   pub payload : payload_in after ≡ payload_of c bytes
   pub whole : length (payload_of c bytes) ≡ c.length
   pub size : n ≡ data_size c
@@ -63,5 +62,5 @@ abbrev pub WrittenReadsBack : Type 0
 WrittenReadsBack =
     (room : Room) (firstTsn firstMessage : ℕ) → firstTsn < tsns → firstMessage ≤ number_max → (rs : List Request) → Each TypedRequest rs →
     let s = served_from room firstTsn firstMessage rs in
-    (tsn : ℕ) (bytes out : List ℕ) (n : ℕ) → (data_chunk tsn bytes out s).answer ≡ Laid.Bytes n
+    (tsn : ℕ) (bytes out : List ℕ) (n : ℕ) → (data_chunk tsn bytes out s).answer ≡ Ok n
     → (c : Chunk) × ToSend tsn s c × ReadsBack tsn c bytes out n (data_chunk tsn bytes out s).out

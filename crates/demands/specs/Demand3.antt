@@ -1,9 +1,8 @@
 -- Demand 3, sentence by sentence, of a state that calls have reached.
-use Rattle.std.specs.Prelude.{ℕ, suc, ◌+◌, ◌%◌, ◌≤◌, ◌<◌, ◌≡◌, ◌≢◌, List, [], ◌∷◌, ◌++◌, map, length, take}
+use Rattle.std.specs.Prelude.{ℕ, suc, ◌+◌, ◌%◌, ◌≤◌, ◌<◌, ◌≡◌, ◌≢◌, List, [], ◌∷◌, ◌++◌, map, length, take, Some, Ok}
 use Rattle.std.proofs.Math.Option.{some}
 use Rattle.limits.specs.Limits.{Room, clock_max, tsns}
 use Rattle.model.specs.declared.Chunk.{Chunk}
-use Rattle.model.specs.declared.Sent.{Sent}
 use Rattle.model.specs.Lists.{last}
 use Rattle.model.specs.State.{Sender, fresh, next_tsn, in_flight}
 use Rattle.model.specs.Rings.{head, started, sent_at, send, pending_of, terminator}
@@ -17,14 +16,14 @@ sent_by now s d = sent_at now (started now s.numbers.unstarted d)
 pub record Demand3 (room : Room) (s : Sender) : Type 0 where
   -- A send with its clock in range, something pending and room left in flight yields the head, with the next TSN modulo 2 ^ 32 ..
   pub yield : (now : ℕ) → now ≤ clock_max → SomePending s → suc (length s.flight.entries) < room.flight
-      → (d : Chunk) × (head s.pending ≡ some d) × ((send room now s).says ≡ Sent.Yielded (next_tsn s) (sent_by now s d))
+      → (d : Chunk) × (head s.pending ≡ some d) × ((send room now s).says ≡ Ok (Some (next_tsn s, sent_by now s d)))
   -- .. and that TSN then finds that chunk in flight, while older entries keep their places.
-  pub found : (now tsn : ℕ) (y : Chunk) → (send room now s).says ≡ Sent.Yielded tsn y
+  pub found : (now tsn : ℕ) (y : Chunk) → (send room now s).says ≡ Ok (Some (tsn, y))
       → ((send room now s).after.flight.entries ≡ s.flight.entries ++ (y ∷ [])) × (in_flight tsn (send room now s).after.flight ≡ some y)
   -- Behind the chunk that a send yields, what is left of its message is contiguous, up to the ending fragment ..
-  pub left : (now tsn : ℕ) (y : Chunk) → (send room now s).says ≡ Sent.Yielded tsn y → Remaining (behind (bare y)) (map bare (rest (send room now s).after.pending))
+  pub left : (now tsn : ℕ) (y : Chunk) → (send room now s).says ≡ Ok (Some (tsn, y)) → Remaining (behind (bare y)) (map bare (rest (send room now s).after.pending))
   -- .. and that is what further calls yield next, in order, until it is complete or its message is abandoned.
-  pub in_order : (now tsn : ℕ) (y : Chunk) → (send room now s).says ≡ Sent.Yielded tsn y → (js : List Call)
+  pub in_order : (now tsn : ℕ) (y : Chunk) → (send room now s).says ≡ Ok (Some (tsn, y)) → (js : List Call)
       → Unabandoned room y.message.number js (send room now s).after
       → Agree (map bare (yields_of room js (send room now s).after)) (map bare (rest (send room now s).after.pending))
   -- A call files, with the next TSNs, the chunk that it yields, or the terminator of the message that it abandons, and nothing else.

@@ -1,14 +1,11 @@
 -- Every number stays in its type, which the packing into cells leans on.
-use Rattle.std.specs.Prelude.{ℕ, ◌+◌, ◌^◌, ◌≤◌, ◌<◌, List}
+use Rattle.std.specs.Prelude.{ℕ, ◌+◌, ◌^◌, ◌≤◌, ◌<◌, List, Some, None}
 use Rattle.limits.specs.Limits.{Room, clock_max, setting_max, offset_max, buffered_max, payload_max, number_max, tsns, ssns}
-use Rattle.limits.specs.declared.Moment.{Moment}
-use Rattle.limits.specs.declared.Moment.TheVariants.{Absent, At}
 use Rattle.model.specs.declared.Chunk.{Chunk}
 use Rattle.model.specs.declared.Message.{Message}
 use Rattle.model.specs.declared.Reliability.{Reliability}
 use Rattle.model.specs.declared.Stream.{Stream}
-use Rattle.model.specs.State.{Sender, fresh, at}
-use Rattle.model.specs.declared.Lane.{Lane}
+use Rattle.model.specs.State.{Sender, fresh, at, Lane}
 use Rattle.model.specs.Calls.{
   Call,
   Open,
@@ -29,6 +26,7 @@ use Rattle.model.specs.Calls.{
   run,
 }
 use Rattle.demands.specs.Words.{Each}
+use Rattle.limits.specs.Moments.{Moment}
 
 -- the arguments of a call fit their types: identifiers u16, payload types u32, kinds u8, values u32, thresholds u64. Numbers that a
 -- call refuses or only compares are free
@@ -51,8 +49,8 @@ Typed (Ask q) = Unit
 
 -- a deadline is at most 2 ^ 40 + 4,294,967,295; the time of a send at most 2 ^ 40
 abbrev pub AtMost : ℕ → Moment → Type 0
-AtMost n Absent = Unit
-AtMost n (At d) = d ≤ n
+AtMost n None = Unit
+AtMost n (Some d) = d ≤ n
 
 pub record ReliabilityFits (r : Reliability) : Type 0 where
   pub kind : r.kind < 2 ^ 8

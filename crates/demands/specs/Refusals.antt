@@ -1,19 +1,10 @@
 -- A refused call leaves the state as it was, and its number is one of those that 01 lists for the call.
-use Rattle.std.specs.Prelude.{ℕ, ◌≤◌, ◌≡◌, ◌≢◌, true, List, [], ◌∷◌, eqb}
+use Rattle.std.specs.Prelude.{ℕ, ◌≤◌, ◌≡◌, ◌≢◌, true, List, [], ◌∷◌, eqb, Some, None, Ok, Err}
 use Rattle.std.proofs.Math.Option.{Option, none, some}
 use Rattle.limits.specs.Limits.{Room}
-use Rattle.limits.specs.Refusals.{done, beyond_limit, bad_bounds, not_open, already_open, streams_full, message_long, buffer_full, ring_full, numbers_spent, flight_full, list_short}
-use Rattle.model.specs.declared.Amount.{Amount}
-use Rattle.model.specs.declared.Counted.{Counted}
-use Rattle.model.specs.declared.Done.{Done}
-use Rattle.model.specs.declared.Expired.{Expired}
-use Rattle.model.specs.declared.Released.{Released}
-use Rattle.model.specs.declared.Sent.{Sent}
-use Rattle.model.specs.declared.TailExpired.{TailExpired}
-use Rattle.model.specs.declared.Written.{Written}
+use Rattle.limits.specs.Refusals.{done, refusal_number, beyond_limit, bad_bounds, not_open, already_open, streams_full, message_long, buffer_full, ring_full, numbers_spent, flight_full, list_short}
 use Rattle.model.specs.Lists.{some_of}
 use Rattle.model.specs.State.{Sender}
-use Rattle.model.specs.Rings.{tsns_are, refused}
 use Rattle.model.specs.Calls.{
   Query,
   Get,
@@ -76,30 +67,30 @@ RefusalsChangeNothing = (room : Room) (k : Call) (s : Sender) → number_of (ste
 
 -- the number that an answer refuses with, if it refuses
 abbrev pub refusal_in : Answer → Option ℕ
-refusal_in (to_do Done.Done) = none
-refusal_in (to_do (Done.Refused n)) = some n
-refusal_in (to_write (Written.Accepted high)) = none
-refusal_in (to_write (Written.Refused n)) = some n
-refusal_in (to_release (Released.Told low)) = none
-refusal_in (to_release (Released.Refused n)) = some n
-refusal_in (to_send (Sent.Yielded t c)) = none
-refusal_in (to_send Sent.Nothing) = none
-refusal_in (to_send (Sent.Refused n)) = some n
-refusal_in (to_expire (Expired.Message i u b)) = none
-refusal_in (to_expire Expired.Nothing) = none
-refusal_in (to_expire (Expired.Refused n)) = some n
-refusal_in (to_expire_tail (TailExpired.Message i m b)) = none
-refusal_in (to_expire_tail TailExpired.Nothing) = none
-refusal_in (to_expire_tail (TailExpired.Refused n)) = some n
+refusal_in (to_do (Ok _)) = none
+refusal_in (to_do (Err r)) = some (refusal_number r)
+refusal_in (to_write (Ok high)) = none
+refusal_in (to_write (Err r)) = some (refusal_number r)
+refusal_in (to_release (Ok low)) = none
+refusal_in (to_release (Err r)) = some (refusal_number r)
+refusal_in (to_send (Ok (Some (t, c)))) = none
+refusal_in (to_send (Ok None)) = none
+refusal_in (to_send (Err r)) = some (refusal_number r)
+refusal_in (to_expire (Ok (Some x))) = none
+refusal_in (to_expire (Ok None)) = none
+refusal_in (to_expire (Err r)) = some (refusal_number r)
+refusal_in (to_expire_tail (Ok (Some x))) = none
+refusal_in (to_expire_tail (Ok None)) = none
+refusal_in (to_expire_tail (Err r)) = some (refusal_number r)
 refusal_in (to_abandon a) = none
 refusal_in (to_find c) = none
 refusal_in (to_seek t) = none
-refusal_in (to_measure (Amount.Is x)) = none
-refusal_in (to_measure (Amount.Refused n)) = some n
-refusal_in (to_count (Counted.Are x)) = none
-refusal_in (to_count (Counted.Refused n)) = some n
-refusal_in (to_list (tsns_are l)) = none
-refusal_in (to_list (refused n)) = some n
+refusal_in (to_measure (Ok x)) = none
+refusal_in (to_measure (Err r)) = some (refusal_number r)
+refusal_in (to_count (Ok x)) = none
+refusal_in (to_count (Err r)) = some (refusal_number r)
+refusal_in (to_list (Ok l)) = none
+refusal_in (to_list (Err r)) = some (refusal_number r)
 refusal_in (number x) = none
 refusal_in (yes_no b) = none
 

@@ -1,10 +1,8 @@
 -- What the single calls of an accepted SACK leave, entry by entry, and the bytes that they free; and that another one changes nothing.
-use Rattle.std.specs.Prelude.{ℕ, suc, ◌+◌, ◌-◌, ◌%◌, ◌≤◌, ◌<◌, ◌≡◌, ◌⊎◌, Bool, true, ◌&&◌, List, [], ◌∷◌, length, drop, leb}
+use Rattle.std.specs.Prelude.{ℕ, suc, ◌+◌, ◌-◌, ◌%◌, ◌≤◌, ◌<◌, ◌≡◌, ◌⊎◌, Bool, true, ◌&&◌, List, [], ◌∷◌, length, drop, leb, None, Ok, Err}
 use Rattle.limits.specs.Limits.{Room, tsns}
-use Rattle.limits.specs.Refusals.{bad_sack, bad_block}
 use Rattle.model.specs.declared.Block.{Block}
 use Rattle.model.specs.declared.Chunk.{Chunk}
-use Rattle.model.specs.declared.Sacked.{Sacked}
 use Rattle.model.specs.Lists.{when◌then◌else◌, some_of, total}
 use Rattle.model.specs.State.{Sender, Flight}
 use Rattle.model.specs.Rings.{bytes}
@@ -12,6 +10,8 @@ use Rattle.model.specs.Flight.{acknowledged}
 use Rattle.model.specs.Calls.{run, answers}
 use Rattle.model.specs.Sack.{all_within}
 use Rattle.model.specs.Sacks.{covered, sack_calls, bytes_in, sack}
+use Rattle.limits.specs.declared.Refusal.{Refusal}
+use Rattle.limits.specs.declared.Refusal.TheVariants.{BadSack, BadBlock}
 
 -- ---- the state that they leave
 
@@ -45,6 +45,6 @@ Accepted = (room : Room) (cumulative : ℕ) (bs : List Block) (s : Sender) → s
 
 -- a stale one changes nothing, and so does a refused one, whose number is 13 or 14
 pub record SacksLeave : Type 0 where
-  pub stale : (room : Room) (packet : List ℕ) (s : Sender) → (sack room packet s).says ≡ Sacked.Stale → (sack room packet s).after ≡ s
-  pub refused : (room : Room) (packet : List ℕ) (s : Sender) (n : ℕ) → (sack room packet s).says ≡ Sacked.Refused n
-      → ((sack room packet s).after ≡ s) × ((n ≡ bad_sack) ⊎ (n ≡ bad_block))
+  pub stale : (room : Room) (packet : List ℕ) (s : Sender) → (sack room packet s).says ≡ Ok None → (sack room packet s).after ≡ s
+  pub refused : (room : Room) (packet : List ℕ) (s : Sender) (r : Refusal) → (sack room packet s).says ≡ Err r
+      → ((sack room packet s).after ≡ s) × ((r ≡ BadSack) ⊎ (r ≡ BadBlock))

@@ -1,26 +1,24 @@
 -- What holds of every state that calls reach: 01's conditions that cannot fail, on which the code leans.
-use Rattle.std.specs.Prelude.{ℕ, ◌≤◌, ◌<◌, ◌≡◌, ◌≢◌, ◌⊎◌, Bool, true, false, not, List, [], ◌∷◌, ◌++◌, length}
+use Rattle.std.specs.Prelude.{ℕ, ◌≤◌, ◌<◌, ◌≡◌, ◌≢◌, ◌⊎◌, Bool, true, false, not, List, [], ◌∷◌, ◌++◌, length, Some, None}
 use Rattle.std.proofs.Math.Option.{Option, none, some}
 use Rattle.limits.specs.Limits.{Room}
-use Rattle.limits.specs.declared.Moment.{Moment}
-use Rattle.limits.specs.declared.Moment.TheVariants.{Absent, At}
 use Rattle.model.specs.declared.Chunk.{Chunk}
 use Rattle.model.specs.declared.Message.{Message}
 use Rattle.model.specs.declared.Stream.{Stream}
-use Rattle.model.specs.declared.Lane.{Lane}
+use Rattle.model.specs.State.{Lane, Sender, Numbers, fresh, at, lane_of, is_of}
 use Rattle.model.specs.Lists.{when◌then◌else◌, keep}
-use Rattle.model.specs.State.{Sender, Numbers, fresh, at, lane_of, is_of}
 use Rattle.model.specs.Streams.{find}
 use Rattle.model.specs.Messages.{is_dcep}
 use Rattle.model.specs.Rings.{head, has_lifetime}
 use Rattle.model.specs.Calls.{Call, PendingContainsStream, ContainsStream, yes_no, answer, run}
 use Rattle.demands.specs.Words.{Each, Waits, number_under_way}
+use Rattle.limits.specs.Moments.{Moment}
 
 -- ---- one chunk
 
 abbrev pub present : Moment → Bool
-present Absent = false
-present (At d) = true
+present None = false
+present (Some d) = true
 
 -- a message not yet seen has no deadline; one that was seen has one exactly if it is Timed and not type 50
 abbrev pub Lifetime : (unstarted : ℕ) → Message → Type 0
@@ -28,7 +26,7 @@ Lifetime k x = (k ≤ x.number → present x.deadline ≡ false) × (x.number < 
 
 -- no type 50 message has a deadline
 abbrev pub NoDcepDeadline : Message → Type 0
-NoDcepDeadline x = is_dcep x.protocol ≡ true → x.deadline ≡ Absent
+NoDcepDeadline x = is_dcep x.protocol ≡ true → x.deadline ≡ None
 
 abbrev pub IsOpen : List Stream → Message → Type 0
 IsOpen l x = (t : Stream) × (find x.stream l ≡ some t)
@@ -41,7 +39,7 @@ pub record PendingChunk (l : List Stream) (n : Numbers) (lane : Lane) (c : Chunk
   pub dcep : NoDcepDeadline c.message
   pub ring : lane_of c.message.unordered ≡ lane
   pub full : 1 ≤ c.length
-  pub unsent : c.since ≡ Absent
+  pub unsent : c.since ≡ None
   pub nsent : c.nsent ≡ 0
   pub acked : c.acked ≡ false
   pub abandoned : c.abandoned ≡ false

@@ -1,17 +1,12 @@
 -- The words of the claims: what is still to come of the message under way, what is ahead of a waiting one, what a call removes.
-use Rattle.std.specs.Prelude.{ℕ, suc, ◌+◌, ◌<◌, ◌≡◌, refl, ◌≢◌, ◌⊎◌, Bool, true, false, ◌&&◌, List, [], ◌∷◌, ◌++◌, map, length, drop, ltb}
+use Rattle.std.specs.Prelude.{ℕ, suc, ◌+◌, ◌<◌, ◌≡◌, refl, ◌≢◌, ◌⊎◌, Bool, true, false, ◌&&◌, List, [], ◌∷◌, ◌++◌, map, length, drop, ltb, None, Ok, Err}
 use Rattle.std.proofs.Common.{arith}
 use Rattle.std.proofs.Math.Option.{Option, none, some}
 use Rattle.limits.specs.Limits.{Room, clock_max}
-use Rattle.limits.specs.declared.Moment.TheVariants.{Absent}
 use Rattle.model.specs.declared.Chunk.{Chunk}
 use Rattle.model.specs.declared.Stream.{Stream}
-use Rattle.model.specs.declared.Lane.TheVariants.{Unordered, Ordered}
-use Rattle.model.specs.declared.UnderWay.{UnderWay}
-use Rattle.model.specs.declared.UnderWay.TheVariants.{Idle, Sending}
-use Rattle.model.specs.declared.Written.{Written}
+use Rattle.model.specs.State.{Unordered, Ordered, UnderWay, Idle, Sending, Sender, Pending, at, in_flight, is_of}
 use Rattle.model.specs.Lists.{when◌then◌else◌, keep, last}
-use Rattle.model.specs.State.{Sender, Pending, at, in_flight, is_of}
 use Rattle.model.specs.Streams.{find}
 use Rattle.model.specs.Messages.{piece, is_unordered, write}
 use Rattle.model.specs.Rings.{renewed, head, pending_of, expires, tail_expires, terminators}
@@ -35,16 +30,17 @@ use Rattle.model.specs.Calls.{
   step,
   run,
 }
+use Rattle.model.specs.Answers.{Written}
 
 -- ---- fragments
 
 -- a chunk without what starting lifetimes, sending and marking give it
 abbrev pub bare : Chunk → Chunk
-bare c = piece (renewed c.message.ssn Absent c.message) c.beginning c.ending c.offset c.length
+bare c = piece (renewed c.message.ssn None c.message) c.beginning c.ending c.offset c.length
 
 -- a fragment as it was cut, but for its SSN, which an expiry may lower while it waits
 abbrev pub as_cut : Chunk → Chunk
-as_cut c = piece (renewed 0 Absent c.message) c.beginning c.ending c.offset c.length
+as_cut c = piece (renewed 0 None c.message) c.beginning c.ending c.offset c.length
 
 -- the chunks of a message among these, as they were cut
 abbrev pub cut_of : (number : ℕ) → List Chunk → List Chunk
@@ -211,8 +207,8 @@ ahead_ordered n p = length p.unordered + before n p.ordered
 
 -- a write is accepted, and its message is unordered
 abbrev pub was_accepted : Written → Bool
-was_accepted (Written.Accepted h) = true
-was_accepted (Written.Refused n) = false
+was_accepted (Ok h) = true
+was_accepted (Err n) = false
 
 abbrev pub unordered_for : Option Stream → (protocol : ℕ) → Bool
 unordered_for none p = false

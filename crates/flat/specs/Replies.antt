@@ -1,24 +1,10 @@
 -- What is told of each answer (`Told` of the model), flat: the number, and the values by their places. What a case does not have is 0.
 use Rattle.std.specs.Prelude.{Bool, false, not, ◌&&◌, ℕ, drop, eqb}
 pub use Rattle.limits.specs.Moments.{present, time_of}
-use Rattle.limits.specs.declared.Moment.{Moment}
 use Rattle.limits.specs.Refusals.{done}
 use Rattle.limits.specs.Told.{Told, tells, refusing, tells_flag, tells_number, tells_moment, value_at, flag_at, given}
 use Rattle.model.specs.declared.Chunk.{Chunk}
-use Rattle.model.specs.declared.Done.{Done}
-use Rattle.model.specs.declared.Written.{Written}
-use Rattle.model.specs.declared.Released.{Released}
-use Rattle.model.specs.declared.Sent.{Sent}
-use Rattle.model.specs.declared.Expired.{Expired}
-use Rattle.model.specs.declared.TailExpired.{TailExpired}
-use Rattle.model.specs.declared.Abandoned.{Abandoned}
-use Rattle.model.specs.declared.Found.{Found}
-use Rattle.model.specs.declared.Listed.{Listed}
-use Rattle.model.specs.declared.Earliest.{Earliest}
-use Rattle.model.specs.declared.Amount.{Amount}
-use Rattle.model.specs.declared.Laid.{Laid}
-use Rattle.model.specs.declared.Counted.{Counted}
-use Rattle.model.specs.declared.Sacked as Model
+use Rattle.model.specs.Answers as Model
 use Rattle.model.specs.Lists.{when◌then◌else◌}
 use Rattle.model.specs.Told.{chunk_values, told_done, told_written, told_released, told_listed, told_earliest, told_amount, told_counted, told_sent, told_found, told_expired, told_tail, told_abandoned, told_sacked, told_laid}
 use Rattle.flat.specs.declared.Reply.{Reply}
@@ -26,6 +12,8 @@ use Rattle.flat.specs.declared.Freed.{Freed}
 use Rattle.flat.specs.declared.Fragment.{Fragment}
 use Rattle.flat.specs.declared.Counts.{Counts}
 use Rattle.flat.specs.declared.Sacked.{Sacked}
+use Rattle.limits.specs.Moments.{Moment}
+use Rattle.model.specs.Answers.{Done, Written, Released, Sent, Expired, TailExpired, Abandoned, Found, Listed, Earliest, Amount, Counted, Laid}
 
 -- ---- 01's number in a reply: the only thing in a refusal
 

@@ -3,8 +3,6 @@
 
 pub mod replies;
 
-use sender_head::Head;
-
 // A number, or a yes or no.
 #[repr(C)]
 #[derive(Clone, Copy)]
@@ -72,29 +70,4 @@ pub struct Sacked {
     pub low: u64,
     pub refusal: u8,
     pub stale: bool,
-}
-
-// The head after a call beside its reply.
-#[derive(Clone, Copy)]
-pub struct Said {
-    pub head: Head,
-    pub reply: Reply,
-}
-
-#[derive(Clone, Copy)]
-pub struct SaidFreed {
-    pub head: Head,
-    pub reply: Freed,
-}
-
-#[derive(Clone, Copy)]
-pub struct SaidFragment {
-    pub head: Head,
-    pub reply: Fragment,
-}
-
-#[derive(Clone, Copy)]
-pub struct SaidSacked {
-    pub head: Head,
-    pub reply: Sacked,
 }

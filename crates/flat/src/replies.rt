@@ -1,14 +1,13 @@
 // The flat reply of each answer: 01's number, and the values of its case. In a reply all that its case does not have is 0.
 ghost use Rattle.std.specs.Prelude.{◌≡◌};
-ghost use Rattle.flat.specs.Replies.{present, time_of, only_number, yes_or_no, number_is, flat_done, flat_written, flat_released, flat_listed, flat_earliest, flat_moment, flat_amount, flat_laid};
+ghost use Rattle.flat.specs.Replies.{only_number, yes_or_no, number_is, flat_done, flat_written, flat_released, flat_listed, flat_earliest, flat_moment, flat_amount, flat_laid};
 ghost use Rattle.flat.specs.Replies.{flat_counted, fragment_of, no_fragment, flat_sent, flat_found, none_freed, flat_expired, flat_tail, flat_abandoned, none_sacked, flat_sacked};
 
+// C hears a number, which is 0 where nothing is refused: so the four that make a reply with nothing else take it as a number. Each answer has a
+// function of its own, two of one type as well: tools/calls.table names it, and specs/Replies.antt says its reply.
 use super::{Counts, Fragment, Freed, Reply, Sacked};
-use limits::Moment;
-use model::{
-    Abandoned, Amount, Chunk, Done, Earliest, Expired, Found, Laid, Listed, Released, Sent,
-    TailExpired, Written,
-};
+use limits::{Moment, Refusal};
+use model::{AbandonedMessage, Chunk, ExpiredMessage, ExpiredTail, Statistics};
 
 // ---- numbers, yes and no
 
@@ -42,48 +41,48 @@ pub fn number(n: u64) -> Reply
     }
 }
 
-pub fn done(a: Done) -> Reply
+pub fn done(a: Result<(), Refusal>) -> Reply
     ensures { result ≡ flat_done a }
 {
     match a {
-        Done::Done => only(0),
-        Done::Refused(n) => only(n),
+        Ok(()) => only(0),
+        Err(refusal) => only(refusal.number()),
     }
 }
 
-pub fn written(a: Written) -> Reply
+pub fn written(a: Result<bool, Refusal>) -> Reply
     ensures { result ≡ flat_written a }
 {
     match a {
-        Written::Accepted(high) => yes_or_no(high),
-        Written::Refused(n) => only(n),
+        Ok(high) => yes_or_no(high),
+        Err(refusal) => only(refusal.number()),
     }
 }
 
-pub fn released(a: Released) -> Reply
+pub fn released(a: Result<bool, Refusal>) -> Reply
     ensures { result ≡ flat_released a }
 {
     match a {
-        Released::Told(low) => yes_or_no(low),
-        Released::Refused(n) => only(n),
+        Ok(low) => yes_or_no(low),
+        Err(refusal) => only(refusal.number()),
     }
 }
 
-pub fn listed(a: Listed) -> Reply
+pub fn listed(a: Result<usize, Refusal>) -> Reply
     ensures { result ≡ flat_listed a }
 {
     match a {
-        Listed::Count(n) => number(n as u64),
-        Listed::Refused(n) => only(n),
+        Ok(n) => number(n as u64),
+        Err(refusal) => only(refusal.number()),
     }
 }
 
-pub fn earliest(a: Earliest) -> Reply
+pub fn earliest(a: Option<u32>) -> Reply
     ensures { result ≡ flat_earliest a }
 {
     match a {
-        Earliest::Tsn(t) => number(t as u64),
-        Earliest::Nothing => only(0),
+        Some(t) => number(t as u64),
+        None => only(0),
     }
 }
 
@@ -91,82 +90,57 @@ pub fn moment(a: Moment) -> Reply
     ensures { result ≡ flat_moment a }
 {
     match a {
-        Moment::Absent => only(0),
-        Moment::At(time) => number(time),
+        None => only(0),
+        Some(time) => number(time),
     }
 }
 
-pub fn amount(a: Amount) -> Reply
+pub fn amount(a: Result<u64, Refusal>) -> Reply
     ensures { result ≡ flat_amount a }
 {
     match a {
-        Amount::Is(n) => number(n),
-        Amount::Refused(n) => only(n),
+        Ok(n) => number(n),
+        Err(refusal) => only(refusal.number()),
     }
 }
 
-pub fn laid(a: Laid) -> Reply
+pub fn laid(a: Result<usize, Refusal>) -> Reply
     ensures { result ≡ flat_laid a }
 {
     match a {
-        Laid::Bytes(n) => number(n as u64),
-        Laid::Refused(n) => only(n),
+        Ok(n) => number(n as u64),
+        Err(refusal) => only(refusal.number()),
     }
 }
 
-pub fn counted(a: model::Counted) -> Counts
+pub fn counted(a: Result<Statistics, Refusal>) -> Counts
     ensures { result ≡ flat_counted a }
 {
     match a {
-        model::Counted::Are(sent) => Counts {
+        Ok(sent) => Counts {
             messages: sent.messages,
             bytes: sent.bytes,
             refusal: 0,
         },
-        model::Counted::Refused(n) => Counts {
+        Err(refusal) => Counts {
             messages: 0,
             bytes: 0,
-            refusal: n,
+            refusal: refusal.number(),
         },
     }
 }
 
 // ---- chunks
 
-fn is_present(m: Moment) -> bool
-    ensures { result ≡ present m }
-{
-    match m {
-        Moment::Absent => false,
-        Moment::At(_) => true,
-    }
-}
-
-fn time_of(m: Moment) -> u64
-    ensures { result ≡ time_of m }
-{
-    match m {
-        Moment::Absent => 0,
-        Moment::At(time) => time,
-    }
-}
-
 fn of_chunk(tsn: u32, c: Chunk) -> Fragment
     ensures { result ≡ fragment_of tsn c }
 {
-    let message = c.message;
-    let until = message.deadline;
-    let since = c.since;
-    let has_deadline = is_present(until);
-    let has_since = is_present(since);
-    let deadline = time_of(until);
-    let sent = time_of(since);
     Fragment {
         message_id: c.message.number,
         offset: c.offset,
-        deadline: deadline,
-        since: sent,
-        tsn: tsn,
+        deadline: c.message.deadline.unwrap_or(0),
+        since: c.since.unwrap_or(0),
+        tsn,
         length: c.length,
         protocol: c.message.protocol,
         value: c.message.reliability.value,
@@ -176,8 +150,8 @@ fn of_chunk(tsn: u32, c: Chunk) -> Fragment
         kind: c.message.reliability.kind,
         refusal: 0,
         some: true,
-        has_deadline: has_deadline,
-        has_since: has_since,
+        has_deadline: c.message.deadline.is_some(),
+        has_since: c.since.is_some(),
         unordered: c.message.unordered,
         beginning: c.beginning,
         ending: c.ending,
@@ -216,25 +190,23 @@ fn no_fragment(number: u8) -> Fragment
     }
 }
 
-pub fn sent(a: Sent) -> Fragment
+pub fn sent(a: Result<Option<(u32, Chunk)>, Refusal>) -> Fragment
     ensures { result ≡ flat_sent a }
 {
-    let Sent::Yielded(tsn, c) = a else {
-        if let Sent::Refused(n) = a {
-            return no_fragment(n);
-        }
-        return no_fragment(0);
-    };
-    of_chunk(tsn, c)
+    match a {
+        Ok(Some((tsn, chunk))) => of_chunk(tsn, chunk),
+        Ok(None) => no_fragment(0),
+        Err(refusal) => no_fragment(refusal.number()),
+    }
 }
 
 // `tsn` is the entry's, or 0 for a chunk that has none yet.
-pub fn found(tsn: u32, a: Found) -> Fragment
+pub fn found(tsn: u32, a: Option<Chunk>) -> Fragment
     ensures { result ≡ flat_found tsn a }
 {
     match a {
-        Found::One(c) => of_chunk(tsn, c),
-        Found::Nothing => no_fragment(0),
+        Some(c) => of_chunk(tsn, c),
+        None => no_fragment(0),
     }
 }
 
@@ -253,61 +225,53 @@ fn none_freed(number: u8) -> Freed
     }
 }
 
-pub fn expired(a: Expired) -> Freed
+pub fn expired(a: Result<Option<ExpiredMessage>, Refusal>) -> Freed
     ensures { result ≡ flat_expired a }
 {
     match a {
-        Expired::Message {
-            stream,
-            unordered,
-            bytes,
-        } => Freed {
+        Ok(Some(message)) => Freed {
             message_id: 0,
-            bytes: bytes,
-            stream: stream,
+            bytes: message.bytes,
+            stream: message.stream,
             refusal: 0,
             some: true,
-            unordered: unordered,
+            unordered: message.unordered,
         },
-        Expired::Nothing => none_freed(0),
-        Expired::Refused(n) => none_freed(n),
+        Ok(None) => none_freed(0),
+        Err(refusal) => none_freed(refusal.number()),
     }
 }
 
-pub fn tail(a: TailExpired) -> Freed
+pub fn tail(a: Result<Option<ExpiredTail>, Refusal>) -> Freed
     ensures { result ≡ flat_tail a }
 {
     match a {
-        TailExpired::Message {
-            stream,
-            number,
-            bytes,
-        } => Freed {
-            message_id: number,
-            bytes: bytes,
-            stream: stream,
+        Ok(Some(tail)) => Freed {
+            message_id: tail.number,
+            bytes: tail.bytes,
+            stream: tail.stream,
             refusal: 0,
             some: true,
             unordered: false,
         },
-        TailExpired::Nothing => none_freed(0),
-        TailExpired::Refused(n) => none_freed(n),
+        Ok(None) => none_freed(0),
+        Err(refusal) => none_freed(refusal.number()),
     }
 }
 
-pub fn abandoned(a: Abandoned) -> Freed
+pub fn abandoned(a: Option<AbandonedMessage>) -> Freed
     ensures { result ≡ flat_abandoned a }
 {
     match a {
-        Abandoned::Message { stream, bytes } => Freed {
+        Some(message) => Freed {
             message_id: 0,
-            bytes: bytes,
-            stream: stream,
+            bytes: message.bytes,
+            stream: message.stream,
             refusal: 0,
             some: true,
             unordered: false,
         },
-        Abandoned::Nothing => none_freed(0),
+        None => none_freed(0),
     }
 }
 
@@ -324,17 +288,17 @@ fn none_sacked(number: u8) -> Sacked
     }
 }
 
-pub fn sacked(a: model::Sacked) -> Sacked
+pub fn sacked(a: Result<Option<u64>, Refusal>) -> Sacked
     ensures { result ≡ flat_sacked a }
 {
     match a {
-        model::Sacked::Released(bytes) => Sacked {
-            bytes: bytes,
+        Ok(Some(bytes)) => Sacked {
+            bytes,
             low: 0,
             refusal: 0,
             stale: false,
         },
-        model::Sacked::Stale => none_sacked(0),
-        model::Sacked::Refused(n) => none_sacked(n),
+        Ok(None) => none_sacked(0),
+        Err(refusal) => none_sacked(refusal.number()),
     }
 }

@@ -3,11 +3,11 @@ use Rattle.std.specs.Prelude.{◌≡◌, List, ℕ}
 use Rattle.std.proofs.Common.{ap, ◌∙◌}
 use Rattle.model.specs.State.{Sender}
 use Rattle.model.specs.Data.{Output}
-use Rattle.model.specs.declared.Laid.{Laid}
 use Rattle.sender_head.specs.declared.Head.{Head}
 use Rattle.sender_head.specs.Whole.{sender_of}
 use Rattle.flat.specs.declared.Reply.{Reply}
 use Rattle.flat.specs.Replies.{flat_laid}
+use Rattle.model.specs.Answers.{Laid}
 
 -- the reply, and the lent output as it comes back
 pub record FlatOutput : Type 0 where

@@ -6,12 +6,12 @@ use Rattle.limits.specs.Refusals.{done}
 use Rattle.model.specs.State.{Sender}
 use Rattle.model.specs.Told.{told_listed}
 use Rattle.model.specs.Rings.{Listing}
-use Rattle.model.specs.declared.Listed.{Listed}
 use Rattle.outbound_abandon.specs.LeanListing.{Lent, listed_in, DoesKept}
 use Rattle.sender_head.specs.declared.Head.{Head}
 use Rattle.sender_head.specs.Whole.{sender_of, Counted}
 use Rattle.flat.specs.declared.Reply.{Reply}
 use Rattle.flat.specs.Replies.{flat_listed}
+use Rattle.model.specs.Answers.{Listed}
 
 -- the reply, and the lent list as it comes back
 pub record FlatLent : Type 0 where

@@ -4,7 +4,6 @@ use mathlib.Core.Bool.{true, true≢false}
 use native.Mathlib.Omega.{arith}
 use Rattle.limits.specs.Limits.{room01}
 use Rattle.model.specs.State.{Out}
-use Rattle.model.specs.declared.Laid.{Laid}
 use Rattle.model.specs.Rings.{send}
 use Rattle.model.specs.Data.{data_chunk}
 use Rattle.demands.specs.Data.{ReadsBack}
@@ -15,6 +14,8 @@ use Rattle.flat.specs.Replies.{flat_sent, flat_laid}
 use Rattle.flat_calls.specs.Chunks.{FlatOutput}
 use Rattle.lent.specs.Reached.{state_of, Sums, LentRuns, YieldsBelow255, WritesReadBack}
 use Rattle.lent.proofs.Called.{follows}
+use Rattle.std.specs.Prelude.{Ok, Err}
+use Rattle.model.specs.Answers.{Laid}
 
 pub lent_runs : LentRuns
 lent_runs tsn number h rs s r = as_model state_of Sums follows tsn number h rs r.1 s r.3.0 r.3.1.0 r.4
@@ -28,9 +29,9 @@ yields_below_255 tsn number h rs s s' r clock c p f y d =
     (ap (λ (x : Fragment). x.some) e, ap (λ (x : Fragment). x.tsn) e, (z.0, z.1, e))
 
 -- a reply that says yes tells bytes
-told_bytes : (a : Laid) (y : Reply) → y ≡ flat_laid a → y.yes ≡ true → a ≡ Laid.Bytes y.value
-told_bytes (Laid.Bytes n) y e h = ap (λ (x : Reply). Laid.Bytes x.value) (sym e)
-told_bytes (Laid.Refused n) y e h = absurd (true≢false (sym h ∙ ap (λ (x : Reply). x.yes) e))
+told_bytes : (a : Laid) (y : Reply) → y ≡ flat_laid a → y.yes ≡ true → a ≡ Ok y.value
+told_bytes (Ok n) y e h = ap (λ (x : Reply). Ok x.value) (sym e)
+told_bytes (Err n) y e h = absurd (true≢false (sym h ∙ ap (λ (x : Reply). x.yes) e))
 
 pub writes_read_back : WritesReadBack
 writes_read_back tsn number h k rs ty s r bytes out t out' y d e =

@@ -1,6 +1,5 @@
-// 01's sender as a host holds it: one struct, and thin functions over a reference to it. Each lends the cells to a function of the flat layer,
-// and copies the head out and in; no call copies the cells. A host that hands over any bytes at all is safe: each bit pattern of the struct is a
-// sender. Written by tools/thin from tools/calls.table.
+// 01's sender as a host holds it: one struct, and thin functions over a reference to it. Each lends head and cells to a function of the flat
+// layer. A host that hands over any bytes at all is safe: each bit pattern of the struct is a sender. Written by tools/thin from tools/calls.table.
 #![tactic(auto)]
 
 ghost use Rattle.lent.specs.Says.{Init, OpenStream, SetReliabilityParams, SetBufferedAmountLowThreshold, SetBufferedAmountHighThreshold, OnBufferReleased, Write, StartTimedMessages, SendNext, ExpirePending, ExpirePendingTail, Abandon};
@@ -26,9 +25,7 @@ pub struct Sender {
 pub extern "C" fn girdermoth_init(s: &mut Sender, tsn: u32, number: u64) -> Reply
     ensures { Init tsn number s.old s.new result }
 {
-    let r = flat_calls::init(s.head, &mut s.cells, tsn, number);
-    s.head = r.head;
-    r.reply
+    flat_calls::init(&mut s.head, &mut s.cells, tsn, number)
 }
 
 // A new stream: ordered, Reliable, and never high. Refusals: 2, 4, 5.
@@ -36,9 +33,7 @@ pub extern "C" fn girdermoth_init(s: &mut Sender, tsn: u32, number: u64) -> Repl
 pub extern "C" fn girdermoth_open_stream(s: &mut Sender, identifier: u16, maximum: u32) -> Reply
     ensures { OpenStream identifier maximum s.old s.new result }
 {
-    let r = flat_calls::open_stream(s.head, &mut s.cells, identifier, maximum);
-    s.head = r.head;
-    r.reply
+    flat_calls::open_stream(&mut s.head, &mut s.cells, identifier, maximum)
 }
 
 // How messages that are written from now on are delivered. Refusal: 3.
@@ -52,16 +47,14 @@ pub extern "C" fn girdermoth_set_reliability_params(
 ) -> Reply
     ensures { SetReliabilityParams identifier unordered kind value s.old s.new result }
 {
-    let r = flat_calls::set_reliability_params(
-        s.head,
+    flat_calls::set_reliability_params(
+        &mut s.head,
         &mut s.cells,
         identifier,
         unordered,
         kind,
         value,
-    );
-    s.head = r.head;
-    r.reply
+    )
 }
 
 // A release that brings the buffered amount from above this to it or below is answered yes. Refusal: 3.
@@ -73,9 +66,7 @@ pub extern "C" fn girdermoth_set_buffered_amount_low_threshold(
 ) -> Reply
     ensures { SetBufferedAmountLowThreshold identifier low s.old s.new result }
 {
-    let r = flat_calls::set_buffered_amount_low_threshold(s.head, &mut s.cells, identifier, low);
-    s.head = r.head;
-    r.reply
+    flat_calls::set_buffered_amount_low_threshold(&mut s.head, &mut s.cells, identifier, low)
 }
 
 // A message that brings the buffered amount from below this to it or above is answered yes. Refusal: 3.
@@ -87,9 +78,7 @@ pub extern "C" fn girdermoth_set_buffered_amount_high_threshold(
 ) -> Reply
     ensures { SetBufferedAmountHighThreshold identifier high s.old s.new result }
 {
-    let r = flat_calls::set_buffered_amount_high_threshold(s.head, &mut s.cells, identifier, high);
-    s.head = r.head;
-    r.reply
+    flat_calls::set_buffered_amount_high_threshold(&mut s.head, &mut s.cells, identifier, high)
 }
 
 // Bytes of a stream have left the sender; `yes` where the amount fell to the low threshold. Refusal: 3.
@@ -101,9 +90,7 @@ pub extern "C" fn girdermoth_on_buffer_released(
 ) -> Reply
     ensures { OnBufferReleased identifier released s.old s.new result }
 {
-    let r = flat_calls::on_buffer_released(s.head, &mut s.cells, identifier, released);
-    s.head = r.head;
-    r.reply
+    flat_calls::on_buffer_released(&mut s.head, &mut s.cells, identifier, released)
 }
 
 // ---- messages
@@ -119,9 +106,14 @@ pub extern "C" fn girdermoth_write(
 ) -> Reply
     ensures { Write identifier protocol offset length s.old s.new result }
 {
-    let r = flat_calls::write(s.head, &mut s.cells, identifier, protocol, offset, length);
-    s.head = r.head;
-    r.reply
+    flat_calls::write(
+        &mut s.head,
+        &mut s.cells,
+        identifier,
+        protocol,
+        offset,
+        length,
+    )
 }
 
 // Starts the lifetimes of the messages not yet seen. Refusal: 1.
@@ -129,9 +121,7 @@ pub extern "C" fn girdermoth_write(
 pub extern "C" fn girdermoth_start_timed_messages(s: &mut Sender, clock: u64) -> Reply
     ensures { StartTimedMessages clock s.old s.new result }
 {
-    let r = flat_calls::start_timed_messages(s.head, &mut s.cells, clock);
-    s.head = r.head;
-    r.reply
+    flat_calls::start_timed_messages(&mut s.head, &mut s.cells, clock)
 }
 
 // The next chunk goes to the flight. Refusals: 1; 10 where a chunk is pending.
@@ -139,9 +129,7 @@ pub extern "C" fn girdermoth_start_timed_messages(s: &mut Sender, clock: u64) ->
 pub extern "C" fn girdermoth_send_next(s: &mut Sender, clock: u64) -> Fragment
     ensures { SendNext clock s.old s.new result }
 {
-    let r = flat_calls::send_next(s.head, &mut s.cells, clock);
-    s.head = r.head;
-    r.reply
+    flat_calls::send_next(&mut s.head, &mut s.cells, clock)
 }
 
 // The message at the head goes if it is due, and takes no TSN. Refusal: 1.
@@ -149,9 +137,7 @@ pub extern "C" fn girdermoth_send_next(s: &mut Sender, clock: u64) -> Fragment
 pub extern "C" fn girdermoth_expire_pending(s: &mut Sender, clock: u64) -> Freed
     ensures { ExpirePending clock s.old s.new result }
 {
-    let r = flat_calls::expire_pending(s.head, &mut s.cells, clock);
-    s.head = r.head;
-    r.reply
+    flat_calls::expire_pending(&mut s.head, &mut s.cells, clock)
 }
 
 // Abandons the message under way, if its rest has expired. Refusal: 1.
@@ -159,9 +145,7 @@ pub extern "C" fn girdermoth_expire_pending(s: &mut Sender, clock: u64) -> Freed
 pub extern "C" fn girdermoth_expire_pending_tail(s: &mut Sender, clock: u64) -> Freed
     ensures { ExpirePendingTail clock s.old s.new result }
 {
-    let r = flat_calls::expire_pending_tail(s.head, &mut s.cells, clock);
-    s.head = r.head;
-    r.reply
+    flat_calls::expire_pending_tail(&mut s.head, &mut s.cells, clock)
 }
 
 // Abandons the message of a TSN in flight.
@@ -169,9 +153,7 @@ pub extern "C" fn girdermoth_expire_pending_tail(s: &mut Sender, clock: u64) -> 
 pub extern "C" fn girdermoth_abandon(s: &mut Sender, tsn: u32) -> Freed
     ensures { Abandon tsn s.old s.new result }
 {
-    let r = flat_calls::abandon(s.head, &mut s.cells, tsn);
-    s.head = r.head;
-    r.reply
+    flat_calls::abandon(&mut s.head, &mut s.cells, tsn)
 }
 
 // ---- the flight
@@ -181,9 +163,7 @@ pub extern "C" fn girdermoth_abandon(s: &mut Sender, tsn: u32) -> Freed
 pub extern "C" fn girdermoth_mark_as_acked(s: &mut Sender, tsn: u32) -> Reply
     ensures { MarkAsAcked tsn s.old s.new result }
 {
-    let r = flat_calls::mark_as_acked(s.head, &mut s.cells, tsn);
-    s.head = r.head;
-    r.reply
+    flat_calls::mark_as_acked(&mut s.head, &mut s.cells, tsn)
 }
 
 // Takes the oldest entry, if it has this TSN.
@@ -191,9 +171,7 @@ pub extern "C" fn girdermoth_mark_as_acked(s: &mut Sender, tsn: u32) -> Reply
 pub extern "C" fn girdermoth_pop(s: &mut Sender, tsn: u32) -> Fragment
     ensures { Pop tsn s.old s.new result }
 {
-    let r = flat_calls::pop(s.head, &mut s.cells, tsn);
-    s.head = r.head;
-    r.reply
+    flat_calls::pop(&mut s.head, &mut s.cells, tsn)
 }
 
 // Reads the peer's SACK, of exactly the chunk's bytes: the covered prefix is acknowledged and popped, then the blocks are acknowledged; a stale one changes nothing. Refusals: 13; 14 where it is not stale.
@@ -201,9 +179,7 @@ pub extern "C" fn girdermoth_pop(s: &mut Sender, tsn: u32) -> Fragment
 pub extern "C" fn girdermoth_handle_sack(s: &mut Sender, chunk: &[u8]) -> Sacked
     ensures { HandleSack chunk.now s.old s.new result }
 {
-    let r = flat_calls::handle_sack(s.head, &mut s.cells, chunk);
-    s.head = r.head;
-    r.reply
+    flat_calls::handle_sack(&mut s.head, &mut s.cells, chunk)
 }
 
 // Every entry that is neither acknowledged nor abandoned is to be retransmitted.
@@ -211,9 +187,7 @@ pub extern "C" fn girdermoth_handle_sack(s: &mut Sender, chunk: &[u8]) -> Sacked
 pub extern "C" fn girdermoth_mark_all_to_retransmit(s: &mut Sender) -> Reply
     ensures { MarkAllToRetransmit s.old s.new result }
 {
-    let r = flat_calls::mark_all_to_retransmit(s.head, &mut s.cells);
-    s.head = r.head;
-    r.reply
+    flat_calls::mark_all_to_retransmit(&mut s.head, &mut s.cells)
 }
 
 // The TSNs in flight whose message has expired, in the front of the lent list; the value is how many. What is pending and in flight stays. Refusals: 1, 11.
@@ -221,9 +195,7 @@ pub extern "C" fn girdermoth_mark_all_to_retransmit(s: &mut Sender) -> Reply
 pub extern "C" fn girdermoth_expired_inflight(s: &mut Sender, list: &mut [u32], clock: u64) -> Reply
     ensures { ExpiredInflight list.old clock s.old s.new list.new result }
 {
-    let r = flat_calls::expired_inflight(s.head, &mut s.cells, list, clock);
-    s.head = r.head;
-    r.reply
+    flat_calls::expired_inflight(&mut s.head, &mut s.cells, list, clock)
 }
 
 // ---- chunks for the wire
@@ -233,7 +205,7 @@ pub extern "C" fn girdermoth_expired_inflight(s: &mut Sender, list: &mut [u32], 
 pub extern "C" fn girdermoth_data_chunk(s: &Sender, bytes: &[u8], out: &mut [u8], tsn: u32) -> Reply
     ensures { DataChunk bytes.now out.old tsn s.now out.new result }
 {
-    flat_calls::data_chunk(s.head, &s.cells, bytes, out, tsn)
+    flat_calls::data_chunk(&s.head, &s.cells, bytes, out, tsn)
 }
 
 // ---- questions
@@ -243,7 +215,7 @@ pub extern "C" fn girdermoth_data_chunk(s: &Sender, bytes: &[u8], out: &mut [u8]
 pub extern "C" fn girdermoth_get(s: &Sender, tsn: u32) -> Fragment
     ensures { Get tsn s.now result }
 {
-    flat_calls::get(s.head, &s.cells, tsn)
+    flat_calls::get(&s.head, &s.cells, tsn)
 }
 
 // Whether the message of a TSN was given up. No for a TSN that is not in flight.
@@ -251,7 +223,7 @@ pub extern "C" fn girdermoth_get(s: &Sender, tsn: u32) -> Fragment
 pub extern "C" fn girdermoth_is_abandoned(s: &Sender, tsn: u32) -> Reply
     ensures { IsAbandoned tsn s.now result }
 {
-    flat_calls::is_abandoned(s.head, &s.cells, tsn)
+    flat_calls::is_abandoned(&s.head, &s.cells, tsn)
 }
 
 // The chunk that is sent next; it has no TSN yet.
@@ -259,7 +231,7 @@ pub extern "C" fn girdermoth_is_abandoned(s: &Sender, tsn: u32) -> Reply
 pub extern "C" fn girdermoth_peek_pending(s: &Sender) -> Fragment
     ensures { PeekPending s.now result }
 {
-    flat_calls::peek_pending(s.head, &s.cells)
+    flat_calls::peek_pending(&s.head, &s.cells)
 }
 
 // The number of the next message.
@@ -267,7 +239,7 @@ pub extern "C" fn girdermoth_peek_pending(s: &Sender) -> Fragment
 pub extern "C" fn girdermoth_next_message_id(s: &Sender) -> Reply
     ensures { NextMessageId s.now result }
 {
-    flat_calls::next_message_id(s.head, &s.cells)
+    flat_calls::next_message_id(&s.head, &s.cells)
 }
 
 // The TSN of the next chunk that is sent.
@@ -275,7 +247,7 @@ pub extern "C" fn girdermoth_next_message_id(s: &Sender) -> Reply
 pub extern "C" fn girdermoth_next_tsn(s: &Sender) -> Reply
     ensures { NextTsn s.now result }
 {
-    flat_calls::next_tsn(s.head, &s.cells)
+    flat_calls::next_tsn(&s.head, &s.cells)
 }
 
 // How many chunks are pending.
@@ -283,7 +255,7 @@ pub extern "C" fn girdermoth_next_tsn(s: &Sender) -> Reply
 pub extern "C" fn girdermoth_pending_len(s: &Sender) -> Reply
     ensures { PendingLen s.now result }
 {
-    flat_calls::pending_len(s.head, &s.cells)
+    flat_calls::pending_len(&s.head, &s.cells)
 }
 
 // How many bytes are pending.
@@ -291,7 +263,7 @@ pub extern "C" fn girdermoth_pending_len(s: &Sender) -> Reply
 pub extern "C" fn girdermoth_pending_bytes(s: &Sender) -> Reply
     ensures { PendingBytes s.now result }
 {
-    flat_calls::pending_bytes(s.head, &s.cells)
+    flat_calls::pending_bytes(&s.head, &s.cells)
 }
 
 // How many entries the flight has.
@@ -299,7 +271,7 @@ pub extern "C" fn girdermoth_pending_bytes(s: &Sender) -> Reply
 pub extern "C" fn girdermoth_inflight_len(s: &Sender) -> Reply
     ensures { InflightLen s.now result }
 {
-    flat_calls::inflight_len(s.head, &s.cells)
+    flat_calls::inflight_len(&s.head, &s.cells)
 }
 
 // How many bytes the entries in flight hold.
@@ -307,7 +279,7 @@ pub extern "C" fn girdermoth_inflight_len(s: &Sender) -> Reply
 pub extern "C" fn girdermoth_inflight_bytes(s: &Sender) -> Reply
     ensures { InflightBytes s.now result }
 {
-    flat_calls::inflight_bytes(s.head, &s.cells)
+    flat_calls::inflight_bytes(&s.head, &s.cells)
 }
 
 // The oldest TSN that is neither acknowledged nor abandoned, where `yes` is set.
@@ -315,7 +287,7 @@ pub extern "C" fn girdermoth_inflight_bytes(s: &Sender) -> Reply
 pub extern "C" fn girdermoth_earliest_outstanding_tsn(s: &Sender) -> Reply
     ensures { EarliestOutstandingTsn s.now result }
 {
-    flat_calls::earliest_outstanding_tsn(s.head, &s.cells)
+    flat_calls::earliest_outstanding_tsn(&s.head, &s.cells)
 }
 
 // Whether a stream has chunks pending.
@@ -323,7 +295,7 @@ pub extern "C" fn girdermoth_earliest_outstanding_tsn(s: &Sender) -> Reply
 pub extern "C" fn girdermoth_pending_contains_stream(s: &Sender, identifier: u16) -> Reply
     ensures { PendingContainsStream identifier s.now result }
 {
-    flat_calls::pending_contains_stream(s.head, &s.cells, identifier)
+    flat_calls::pending_contains_stream(&s.head, &s.cells, identifier)
 }
 
 // Whether a stream has chunks pending or in flight.
@@ -331,7 +303,7 @@ pub extern "C" fn girdermoth_pending_contains_stream(s: &Sender, identifier: u16
 pub extern "C" fn girdermoth_contains_stream(s: &Sender, identifier: u16) -> Reply
     ensures { ContainsStream identifier s.now result }
 {
-    flat_calls::contains_stream(s.head, &s.cells, identifier)
+    flat_calls::contains_stream(&s.head, &s.cells, identifier)
 }
 
 // How many bytes of a stream are written and not yet released. Refusal: 3.
@@ -339,7 +311,7 @@ pub extern "C" fn girdermoth_contains_stream(s: &Sender, identifier: u16) -> Rep
 pub extern "C" fn girdermoth_buffered_amount(s: &Sender, identifier: u16) -> Reply
     ensures { BufferedAmount identifier s.now result }
 {
-    flat_calls::buffered_amount(s.head, &s.cells, identifier)
+    flat_calls::buffered_amount(&s.head, &s.cells, identifier)
 }
 
 // The low threshold of a stream. Refusal: 3.
@@ -347,7 +319,7 @@ pub extern "C" fn girdermoth_buffered_amount(s: &Sender, identifier: u16) -> Rep
 pub extern "C" fn girdermoth_buffered_amount_low_threshold(s: &Sender, identifier: u16) -> Reply
     ensures { BufferedAmountLowThreshold identifier s.now result }
 {
-    flat_calls::buffered_amount_low_threshold(s.head, &s.cells, identifier)
+    flat_calls::buffered_amount_low_threshold(&s.head, &s.cells, identifier)
 }
 
 // The high threshold of a stream. Refusal: 3.
@@ -355,7 +327,7 @@ pub extern "C" fn girdermoth_buffered_amount_low_threshold(s: &Sender, identifie
 pub extern "C" fn girdermoth_buffered_amount_high_threshold(s: &Sender, identifier: u16) -> Reply
     ensures { BufferedAmountHighThreshold identifier s.now result }
 {
-    flat_calls::buffered_amount_high_threshold(s.head, &s.cells, identifier)
+    flat_calls::buffered_amount_high_threshold(&s.head, &s.cells, identifier)
 }
 
 // Messages and bytes sent on a stream. Refusal: 3.
@@ -363,7 +335,7 @@ pub extern "C" fn girdermoth_buffered_amount_high_threshold(s: &Sender, identifi
 pub extern "C" fn girdermoth_stats(s: &Sender, identifier: u16) -> Counts
     ensures { Stats identifier s.now result }
 {
-    flat_calls::stats(s.head, &s.cells, identifier)
+    flat_calls::stats(&s.head, &s.cells, identifier)
 }
 
 // ---- questions beside 01's
@@ -373,7 +345,7 @@ pub extern "C" fn girdermoth_stats(s: &Sender, identifier: u16) -> Counts
 pub extern "C" fn girdermoth_oldest_tsn(s: &Sender) -> Reply
     ensures { OldestTsn s.now result }
 {
-    flat_calls::oldest_tsn(s.head, &s.cells)
+    flat_calls::oldest_tsn(&s.head, &s.cells)
 }
 
 // How many more chunks the ring of unordered messages takes, or that of ordered ones.
@@ -381,7 +353,7 @@ pub extern "C" fn girdermoth_oldest_tsn(s: &Sender) -> Reply
 pub extern "C" fn girdermoth_ring_room(s: &Sender, unordered: bool) -> Reply
     ensures { RingRoom unordered s.now result }
 {
-    flat_calls::ring_room(s.head, &s.cells, unordered)
+    flat_calls::ring_room(&s.head, &s.cells, unordered)
 }
 
 // The earliest deadline of the chunk at the head and of those in flight that are not abandoned, where `yes` is set.
@@ -389,5 +361,5 @@ pub extern "C" fn girdermoth_ring_room(s: &Sender, unordered: bool) -> Reply
 pub extern "C" fn girdermoth_next_deadline(s: &Sender) -> Reply
     ensures { NextDeadline s.now result }
 {
-    flat_calls::next_deadline(s.head, &s.cells)
+    flat_calls::next_deadline(&s.head, &s.cells)
 }

@@ -1,5 +1,5 @@
-// The round-trip estimator as a host holds it: one struct, and thin functions over a reference to it. Each lends the words to a function of
-// `rto_cells`, and copies the head out and in. A host that hands over any bytes at all is safe: each bit pattern of the struct is an estimator. A
+// The round-trip estimator as a host holds it: one struct, and thin functions over a reference to it. Each lends head and words to a function of
+// `rto_cells`. A host that hands over any bytes at all is safe: each bit pattern of the struct is an estimator. A
 // refused call leaves every number, creation too. A call that only changes the estimator answers a refusal's number, or 0.
 #![tactic(auto)]
 
@@ -20,9 +20,7 @@ pub struct Rto {
 pub extern "C" fn girdermoth_rto_new(s: &mut Rto, initial: u64, low: u64, high: u64) -> u8
     ensures { New initial low high s.old s.new result }
 {
-    let r = rto_cells::new(s.head, &mut s.cells, initial, low, high);
-    s.head = r.head;
-    r.reply
+    rto_cells::number_of(rto_cells::new(&mut s.head, &mut s.cells, initial, low, high))
 }
 
 // Takes a measured time; the value is the smoothed one. Refusal: 1.
@@ -30,9 +28,7 @@ pub extern "C" fn girdermoth_rto_new(s: &mut Rto, initial: u64, low: u64, high: 
 pub extern "C" fn girdermoth_rto_set_new_rtt(s: &mut Rto, rtt: u64) -> Smoothed
     ensures { SetNewRtt rtt s.old s.new result }
 {
-    let r = rto_cells::set_new_rtt(s.head, &mut s.cells, rtt);
-    s.head = r.head;
-    r.reply
+    rto_cells::set_new_rtt(&mut s.head, &s.cells, rtt).into()
 }
 
 // The RTO as it stands.
@@ -40,7 +36,7 @@ pub extern "C" fn girdermoth_rto_set_new_rtt(s: &mut Rto, rtt: u64) -> Smoothed
 pub extern "C" fn girdermoth_rto_get_rto(s: &Rto) -> u64
     ensures { GetRto s.now result }
 {
-    rto_cells::get_rto(s.head, &s.cells)
+    rto_cells::get_rto(&s.head, &s.cells)
 }
 
 // Back to no measurement and the initial RTO; nothing changes while updates are off. Never refused.
@@ -48,9 +44,7 @@ pub extern "C" fn girdermoth_rto_get_rto(s: &Rto) -> u64
 pub extern "C" fn girdermoth_rto_reset(s: &mut Rto) -> u8
     ensures { Reset s.old s.new result }
 {
-    let r = rto_cells::reset(s.head, &mut s.cells);
-    s.head = r.head;
-    r.reply
+    rto_cells::number_of(rto_cells::reset(&mut s.head, &s.cells))
 }
 
 // The RTO is kept as it is given, and holds while `no_update` is set. Refusal: 1.
@@ -58,7 +52,5 @@ pub extern "C" fn girdermoth_rto_reset(s: &mut Rto) -> u8
 pub extern "C" fn girdermoth_rto_set_rto(s: &mut Rto, rto: u64, no_update: bool) -> u8
     ensures { SetRto rto no_update s.old s.new result }
 {
-    let r = rto_cells::set_rto(s.head, &mut s.cells, rto, no_update);
-    s.head = r.head;
-    r.reply
+    rto_cells::number_of(rto_cells::set_rto(&mut s.head, &mut s.cells, rto, no_update))
 }

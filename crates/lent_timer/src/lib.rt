@@ -1,11 +1,14 @@
 // The six timers as a host holds them: one struct, and thin functions over a reference to it. Each lends the words to a function of `timer_cells`,
-// and copies the head out and in. A host that hands over any bytes at all is safe: each bit pattern of the struct is a table of timers. A timer is
+// and tells what it answers as C hears it. A host that hands over any bytes at all is safe: each bit pattern of the struct is a table of timers. A timer is
 // named by its place in `Timer::VALUES`, and a place beyond the six is refused with 1. A call touches only the timer that it names, and a refused
 // one leaves every word. A call that changes the timers answers a refusal's number, or 0.
 #![tactic(auto)]
 
+ghost use Rattle.std.specs.Prelude.{◌≡◌};
+ghost use Rattle.timer.specs.Calls.{number_of};
 ghost use Rattle.lent_timer.specs.Says.{New, NextTimeout, Get, Set, Start, RestartIfStale, Stop, ResetRetrans, SuppressErrorCount, IsExpired};
 
+use limits::Refusal;
 use timer_cells::{Due, Expired, Head};
 
 // Three words to a timer: byte for byte the six `girdermoth_timer`s of include/girdermoth.h, and `rto_max` after them.
@@ -14,6 +17,16 @@ use timer_cells::{Due, Expired, Head};
 pub struct Timers {
     pub cells: [u64; 18],
     pub head: Head,
+}
+
+// What C hears of a call that changes the timers: a refusal's number, or 0.
+fn number(answer: Result<(), Refusal>) -> u8
+    ensures { result ≡ number_of answer }
+{
+    match answer {
+        Ok(()) => 0,
+        Err(refusal) => refusal.number(),
+    }
 }
 
 // Six idle timers, whatever the bytes were: with a maximum of init retransmissions, of data retransmissions, or none; `rto_max` in milliseconds.
@@ -29,17 +42,15 @@ pub extern "C" fn girdermoth_timers_new(
 ) -> u8
     ensures { New has_init init has_data «data» rto_max s.old s.new result }
 {
-    let r = timer_cells::new(
-        s.head,
+    number(timer_cells::new(
+        &mut s.head,
         &mut s.cells,
         has_init,
         init,
         has_data,
         data,
         rto_max,
-    );
-    s.head = r.head;
-    r.reply
+    ))
 }
 
 // The smallest deadline of the six, if any has one.
@@ -47,7 +58,7 @@ pub extern "C" fn girdermoth_timers_new(
 pub extern "C" fn girdermoth_timers_next_timeout(s: &Timers) -> Due
     ensures { NextTimeout s.now result }
 {
-    timer_cells::next_timeout(s.head, &s.cells)
+    Due::from(timer_cells::next_timeout(&s.cells))
 }
 
 // The deadline of a timer. Refusal: 1.
@@ -55,7 +66,7 @@ pub extern "C" fn girdermoth_timers_next_timeout(s: &Timers) -> Due
 pub extern "C" fn girdermoth_timer_get(s: &Timers, timer: usize) -> Due
     ensures { Get timer s.now result }
 {
-    timer_cells::get(s.head, &s.cells, timer)
+    Due::from(timer_cells::get(&s.cells, timer))
 }
 
 // Sets or clears the deadline alone. Refusal: 1.
@@ -63,9 +74,7 @@ pub extern "C" fn girdermoth_timer_get(s: &Timers, timer: usize) -> Due
 pub extern "C" fn girdermoth_timer_set(s: &mut Timers, timer: usize, is: bool, time: u64) -> u8
     ensures { Set timer is time s.old s.new result }
 {
-    let r = timer_cells::set(s.head, &mut s.cells, timer, is, time);
-    s.head = r.head;
-    r.reply
+    number(timer_cells::set(&mut s.cells, timer, is, time))
 }
 
 // Refusal: 1.
@@ -78,9 +87,7 @@ pub extern "C" fn girdermoth_timer_start(
 ) -> u8
     ensures { Start timer clock interval s.old s.new result }
 {
-    let r = timer_cells::start(s.head, &mut s.cells, timer, clock, interval);
-    s.head = r.head;
-    r.reply
+    number(timer_cells::start(s.head, &mut s.cells, timer, clock, interval))
 }
 
 // Leaves a deadline at or after `clock` alone; the arguments are tested all the same. Refusal: 1.
@@ -93,9 +100,7 @@ pub extern "C" fn girdermoth_timer_restart_if_stale(
 ) -> u8
     ensures { RestartIfStale timer clock interval s.old s.new result }
 {
-    let r = timer_cells::restart_if_stale(s.head, &mut s.cells, timer, clock, interval);
-    s.head = r.head;
-    r.reply
+    number(timer_cells::restart_if_stale(s.head, &mut s.cells, timer, clock, interval))
 }
 
 // Clears deadline, count and suppression. Refusal: 1.
@@ -103,9 +108,7 @@ pub extern "C" fn girdermoth_timer_restart_if_stale(
 pub extern "C" fn girdermoth_timer_stop(s: &mut Timers, timer: usize) -> u8
     ensures { Stop timer s.old s.new result }
 {
-    let r = timer_cells::stop(s.head, &mut s.cells, timer);
-    s.head = r.head;
-    r.reply
+    number(timer_cells::stop(&mut s.cells, timer))
 }
 
 // Forgets the expiries counted so far; the deadline stays. Refusal: 1.
@@ -113,9 +116,7 @@ pub extern "C" fn girdermoth_timer_stop(s: &mut Timers, timer: usize) -> u8
 pub extern "C" fn girdermoth_timer_reset_retrans(s: &mut Timers, timer: usize) -> u8
     ensures { ResetRetrans timer s.old s.new result }
 {
-    let r = timer_cells::reset_retrans(s.head, &mut s.cells, timer);
-    s.head = r.head;
-    r.reply
+    number(timer_cells::reset_retrans(&mut s.cells, timer))
 }
 
 // The next expiry of the timer is not counted. Refusal: 1.
@@ -123,9 +124,7 @@ pub extern "C" fn girdermoth_timer_reset_retrans(s: &mut Timers, timer: usize) -
 pub extern "C" fn girdermoth_timer_suppress_error_count(s: &mut Timers, timer: usize) -> u8
     ensures { SuppressErrorCount timer s.old s.new result }
 {
-    let r = timer_cells::suppress_error_count(s.head, &mut s.cells, timer);
-    s.head = r.head;
-    r.reply
+    number(timer_cells::suppress_error_count(&mut s.cells, timer))
 }
 
 // Asking counts: every call at or after the deadline is an expiry of its own, and the deadline stays. Refusals: 1, 12.
@@ -133,7 +132,5 @@ pub extern "C" fn girdermoth_timer_suppress_error_count(s: &mut Timers, timer: u
 pub extern "C" fn girdermoth_timer_is_expired(s: &mut Timers, timer: usize, clock: u64) -> Expired
     ensures { IsExpired timer clock s.old s.new result }
 {
-    let r = timer_cells::is_expired(s.head, &mut s.cells, timer, clock);
-    s.head = r.head;
-    r.reply
+    Expired::from(timer_cells::is_expired(&mut s.cells, timer, clock))
 }

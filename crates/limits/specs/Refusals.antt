@@ -1,5 +1,7 @@
 -- Document 01, "What the caller hears": the number of each answer.
 use Rattle.std.specs.Prelude.{ℕ}
+use Rattle.limits.specs.declared.Refusal.{Refusal}
+use Rattle.limits.specs.declared.Refusal.TheVariants.{BeyondLimit, BadBounds, NotOpen, AlreadyOpen, StreamsFull, MessageLong, BufferFull, RingFull, NumbersSpent, FlightFull, ListShort, CountFull, BadSack, BadBlock, NoEntry, PayloadOutside, OutputShort}
 
 -- done: no refusal
 abbrev pub done : ℕ
@@ -72,3 +74,23 @@ payload_outside = 16
 -- the chunk is longer than the output lent
 abbrev pub output_short : ℕ
 output_short = 17
+
+-- a refusal's number
+abbrev pub refusal_number : Refusal → ℕ
+refusal_number BeyondLimit = beyond_limit
+refusal_number BadBounds = bad_bounds
+refusal_number NotOpen = not_open
+refusal_number AlreadyOpen = already_open
+refusal_number StreamsFull = streams_full
+refusal_number MessageLong = message_long
+refusal_number BufferFull = buffer_full
+refusal_number RingFull = ring_full
+refusal_number NumbersSpent = numbers_spent
+refusal_number FlightFull = flight_full
+refusal_number ListShort = list_short
+refusal_number CountFull = count_full
+refusal_number BadSack = bad_sack
+refusal_number BadBlock = bad_block
+refusal_number NoEntry = no_entry
+refusal_number PayloadOutside = payload_outside
+refusal_number OutputShort = output_short

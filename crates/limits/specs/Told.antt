@@ -1,10 +1,9 @@
 -- Document 01, "What the caller hears": where an answer is an enum, each of its cases has a number and values. Every crate with such an answer
 -- says here what is told of it (`model`, `timer`, `rto`), and promises, replies and tapes are read from that.
-use Rattle.std.specs.Prelude.{ℕ, Bool, true, false, List, [], ◌∷◌, get_or}
+use Rattle.std.specs.Prelude.{ℕ, Bool, true, false, List, [], ◌∷◌, get_or, Some, None}
 use Rattle.limits.specs.Flags.{bit_of, is_set}
-use Rattle.limits.specs.Moments.{present, time_of}
+use Rattle.limits.specs.Moments.{Moment, present, time_of}
 use Rattle.limits.specs.Refusals.{done}
-use Rattle.limits.specs.declared.Moment.{Moment}
 
 -- 01's number of an answer, and the values of its case in their order; a flag is 1 for yes and 0 for no
 pub record Told : Type 0 where
@@ -33,8 +32,8 @@ moment_then m rest = bit_of (present m) ∷ time_of m ∷ rest
 
 -- a moment as the whole answer: its time, or nothing
 abbrev pub tells_moment : Moment → Told
-tells_moment Moment.Absent = tells []
-tells_moment (Moment.At t) = tells_number t
+tells_moment None = tells []
+tells_moment (Some t) = tells_number t
 
 -- ---- what was told, read by its places
 

@@ -1,166 +1,87 @@
-// Lines of text in a lent buffer: each function puts its text at a place and says where the next stands. A full buffer is written to standard
-// output and begun anew, so that a run of lines costs few calls of the system.
+// Text in lent bytes, which go to standard output when they are full, so that a run of lines costs few calls of the system.
 #![tactic(auto)]
 
-ghost use Rattle.std.specs.Prelude.{◌+◌, ◌≤◌, ◌<◌};
+ghost use Rattle.std.specs.Prelude.{◌≡◌, ◌≤◌, ◌-◌, [], ◌++◌, Some, codes, length, option_map, take, unwrap_or};
+ghost use Rattle.std.specs.Fmt.{decimal};
 
-use limits::Moment;
+use std::fmt;
+use std::fmt::Write;
 
-// ---- the buffer
-
-pub fn byte(rt: &impl Print, out: &mut [u8], at: usize, letter: u8) -> usize {
-    if at < out.len() {
-        out[at] = letter;
-        return at + 1;
-    }
-    let _ = rt.write_all(out);
-    if 0 < out.len() {
-        out[0] = letter;
-        return 1;
-    }
-    0
-}
-
-// What stands before the place is written out.
-pub fn flush(rt: &impl Print, out: &[u8], at: usize) {
-    if at <= out.len() {
-        let _ = rt.write_all(&out[0..at]);
-    }
-}
-
-pub fn text(rt: &impl Print, out: &mut [u8], at: usize, words: &[u8]) -> usize {
-    let mut place = at;
-    let mut i = 0;
-    while i < words.len() {
-        place = byte(rt, out, place, words[i]);
-        i += 1;
-    }
-    place
-}
-
-pub fn line(rt: &impl Print, out: &mut [u8], at: usize) -> usize {
-    byte(rt, out, at, b'\n')
-}
-
-// ---- numbers
-
-fn decimal(rt: &impl Print, out: &mut [u8], at: usize, n: u64) -> usize {
-    let mut digits = [0u8; 20];
-    let mut rest = n;
-    let mut i: usize = 20;
-    while i > 0 {
-        i -= 1;
-        digits[i] = 48 + (rest % 10) as u8;
-        rest /= 10;
-        if rest == 0 {
-            return text(rt, out, at, &digits[i..20]);
-        }
-    }
-    at
-}
-
-pub fn number(rt: &impl Print, out: &mut [u8], at: usize, label: &[u8], n: u64) -> usize {
-    let place = text(rt, out, at, label);
-    decimal(rt, out, place, n)
-}
-
-fn hexadecimal_digit(n: u8) -> u8
-    requires { n < 16 }
-{
-    if n < 10 {
-        return b'0' + n;
-    }
-    b'a' - 10 + n
-}
-
-// So many digits, zeros in front: at least one and at most sixteen, but never fewer than the number has.
-pub fn hexadecimal(rt: &impl Print, out: &mut [u8], at: usize, n: u64, width: usize) -> usize {
-    let mut digits = [0u8; 16];
-    let mut rest = n;
-    let mut i: usize = 16;
-    while i > 0 {
-        i -= 1;
-        digits[i] = hexadecimal_digit((rest % 16) as u8);
-        rest /= 16;
-        if rest == 0 && width <= 16 - i {
-            return text(rt, out, at, &digits[i..16]);
-        }
-    }
-    text(rt, out, at, &digits)
-}
-
-// The i-th of the numbers, behind a `=`.
-fn value(
-    rt: &impl Print,
-    out: &mut [u8],
+#[derive(Drop)]
+pub struct Page<'r, 'b, P: Print> {
+    rt: &'r P,
+    bytes: &'b mut [u8],
+    // How many of the bytes are written.
     at: usize,
-    letter: u8,
-    values: &[u64],
-    i: usize,
-) -> usize {
-    if letter == b'=' {
-        if i < values.len() {
-            return decimal(rt, out, at, values[i]);
+    ghost within: { at ≤ length bytes.now },
+}
+
+impl<'r, 'b, P: Print> Page<'r, 'b, P> {
+    pub fn new(rt: &'r P, bytes: &'b mut [u8]) -> Self
+        ensures { take result.at result.bytes.now ≡ [] }
+    {
+        Page { rt, bytes, at: 0 }
+    }
+
+    // What stands on the page goes to standard output.
+    pub fn flush(&mut self)
+        ensures { take self.new.at self.new.bytes.now ≡ [] }
+    {
+        let _ = self.rt.write_all(&self.bytes[..self.at]);
+        self.at = 0;
+    }
+
+    fn put(&mut self, text: &[u8])
+        requires { length text.now ≤ length self.old.bytes.now - self.old.at }
+        ensures { take self.new.at self.new.bytes.now ≡ take self.old.at self.old.bytes.now ++ text.now }
+    {
+        let end = self.at + text.len();
+        self.bytes[self.at..end].copy_from_slice(text);
+        self.at = end;
+    }
+
+    // `print!` and `println!` of a page call these. No text is refused.
+    pub fn print(&mut self, text: impl fmt::Display + Drop) {
+        let _ = self.write(text);
+    }
+
+    pub fn println(&mut self, text: impl fmt::Display + Drop) {
+        let _ = self.writeln(text);
+    }
+}
+
+impl<P: Print> fmt::Write for Page<'_, '_, P> {
+    // A text that fits stands behind what stands there.
+    ghost write_str_gives = { λ old text new.
+        length text ≤ length old.bytes.now - old.at
+        → take new.at new.bytes.now ≡ take old.at old.bytes.now ++ text };
+
+    // A text that is longer than a page goes to standard output by itself.
+    fn write_str(&mut self, text: &str) -> fmt::Result {
+        let text = text.as_bytes();
+        if self.bytes.len() - self.at < text.len() {
+            self.flush();
+        }
+        if text.len() <= self.bytes.len() - self.at {
+            self.put(text);
+        } else {
+            let _ = self.rt.write_all(text);
+        }
+        Ok(())
+    }
+}
+
+// A number, or a dash where there is none.
+#[derive(Clone, Copy)]
+pub struct Dashed(pub Option<u64>);
+
+impl fmt::Display for Dashed {
+    ghost output = { λ d. Some (unwrap_or (option_map decimal d.0) (codes "-")) };
+
+    fn fmt<W: fmt::Write>(&self, f: &mut fmt::Formatter<W>) -> fmt::Result {
+        match self.0 {
+            Some(number) => write!(f, "{number}"),
+            None => write!(f, "-"),
         }
     }
-    at
-}
-
-fn next_value(letter: u8, i: usize) -> usize
-    requires { i < 18446744073709551615 }
-    ensures { result ≤ i + 1 }
-{
-    if letter == b'=' {
-        return i + 1;
-    }
-    i
-}
-
-// The pattern, with the next of the numbers behind each `=`.
-pub fn numbers(
-    rt: &impl Print,
-    out: &mut [u8],
-    at: usize,
-    pattern: &[u8],
-    values: &[u64],
-) -> usize {
-    let mut place = at;
-    let mut next = 0;
-    let mut i = 0;
-    while i < pattern.len() {
-        let letter = pattern[i];
-        place = byte(rt, out, place, letter);
-        place = value(rt, out, place, letter, values, next);
-        next = next_value(letter, next);
-        i += 1;
-    }
-    place
-}
-
-// A missing moment is a dash.
-pub fn moment(rt: &impl Print, out: &mut [u8], at: usize, label: &[u8], time: Moment) -> usize {
-    let place = text(rt, out, at, label);
-    match time {
-        Moment::Absent => byte(rt, out, place, b'-'),
-        Moment::At(clock) => decimal(rt, out, place, clock),
-    }
-}
-
-// ---- the answers that many calls share
-
-pub fn done(rt: &impl Print, out: &mut [u8], at: usize) -> usize {
-    text(rt, out, at, b"ok\n")
-}
-
-pub fn none(rt: &impl Print, out: &mut [u8], at: usize) -> usize {
-    text(rt, out, at, b"none\n")
-}
-
-pub fn bad(rt: &impl Print, out: &mut [u8], at: usize) -> usize {
-    text(rt, out, at, b"bad\n")
-}
-
-pub fn refusal(rt: &impl Print, out: &mut [u8], at: usize, n: u8) -> usize {
-    let place = number(rt, out, at, b"R ", n as u64);
-    line(rt, out, place)
 }

@@ -1,24 +1,14 @@
 -- Every call of the sender, its answer, and runs of calls.
-use Rattle.std.specs.Prelude.{ℕ, ◌+◌, Bool, List, [], ◌∷◌, ◌++◌, length, ℤ}
+use Rattle.std.specs.Prelude.{ℕ, ◌+◌, Bool, List, [], ◌∷◌, ◌++◌, length, ℤ, Some, None, Ok, Err}
 use Rattle.limits.specs.Limits.{Room}
 use Rattle.model.specs.declared.Chunk.{Chunk}
-use Rattle.model.specs.declared.Done.{Done}
-use Rattle.model.specs.declared.Written.{Written}
-use Rattle.model.specs.declared.Released.{Released}
-use Rattle.model.specs.declared.Sent.{Sent}
-use Rattle.model.specs.declared.Expired.{Expired}
-use Rattle.model.specs.declared.TailExpired.{TailExpired}
-use Rattle.model.specs.declared.Abandoned.{Abandoned}
-use Rattle.model.specs.declared.Found.{Found}
-use Rattle.model.specs.declared.Earliest.{Earliest}
-use Rattle.model.specs.declared.Amount.{Amount}
-use Rattle.model.specs.declared.Counted.{Counted}
 use Rattle.model.specs.Told.{Told, tells_flag, tells_number, told_done, told_written, told_released, told_sent, told_expired, told_tail, told_abandoned, told_found, told_earliest, told_amount, told_counted, told_listing}
 use Rattle.model.specs.State.{Sender, next_tsn, in_flight, Out, same}
 use Rattle.model.specs.Streams.{find, open_stream, set_reliability, set_low, set_high, release, amount, counts}
 use Rattle.model.specs.Messages.{write}
 use Rattle.model.specs.Rings.{head, start_lifetimes, send, expire_pending, expire_pending_tail, abandon, bytes, Listing, expired_inflight}
 use Rattle.model.specs.Flight.{acknowledge, found, pop, mark_all, is_abandoned, has_stream, earliest_outstanding}
+use Rattle.model.specs.Answers.{Done, Written, Released, Sent, Expired, TailExpired, Abandoned, Found, Earliest, Amount, Counted, did}
 
 -- what changes nothing
 pub data Query : Type 0 where
@@ -91,7 +81,7 @@ step room (ExpirePendingTail now) s = told to_expire_tail (expire_pending_tail n
 step room (Abandon t) s = told to_abandon (abandon t s)
 step room (Acknowledge t) s = told number (acknowledge t s)
 step room (Pop t) s = told to_find (pop t s)
-step room MarkAll s = record { after = mark_all s; says = to_do Done.Done }
+step room MarkAll s = record { after = mark_all s; says = to_do did }
 step room (Ask q) s = same (answer q s) s
 
 -- ---- 01's number and values of an answer, and the chunk that it yields
@@ -117,9 +107,9 @@ abbrev pub number_of : Answer → ℕ
 number_of a = (told_of a).number
 
 abbrev pub yielded_by : Sent → List Chunk
-yielded_by (Sent.Yielded t c) = c ∷ []
-yielded_by Sent.Nothing = []
-yielded_by (Sent.Refused n) = []
+yielded_by (Ok (Some (t, c))) = c ∷ []
+yielded_by (Ok None) = []
+yielded_by (Err n) = []
 
 abbrev pub yielded : Answer → List Chunk
 yielded (to_do a) = []

@@ -1,13 +1,12 @@
 -- Document 01, "Flight": acknowledging, popping, marking, and what is asked of the flight and the rings.
-use Rattle.std.specs.Prelude.{ℕ, ◌+◌, ◌%◌, Bool, true, false, not, ◌||◌, List, [], ◌∷◌, map, eqb}
+use Rattle.std.specs.Prelude.{ℕ, ◌+◌, ◌%◌, Bool, true, false, not, ◌||◌, List, [], ◌∷◌, map, eqb, Some, None}
 use Rattle.std.proofs.Math.Option.{Option, none, some}
 use Rattle.limits.specs.Limits.{tsns}
 use Rattle.model.specs.declared.Chunk.{Chunk}
-use Rattle.model.specs.declared.Found.{Found}
-use Rattle.model.specs.declared.Earliest.{Earliest}
 use Rattle.model.specs.Lists.{when◌then◌else◌, some_of, adjust}
 use Rattle.model.specs.State.{Sender, with_entries, place, in_flight, Out, same}
 use Rattle.model.specs.Rings.{marked, tsns_of}
+use Rattle.model.specs.Answers.{Found, Earliest}
 
 -- ---- acknowledging marks the entry, clears retransmit, answers its held bytes and holds 0 from then on; an unknown TSN answers 0
 
@@ -24,18 +23,18 @@ acknowledge t s = acknowledging (in_flight t s.flight) t s
 -- ---- pop takes only the oldest
 
 abbrev pub found : Option Chunk → Found
-found none = Found.Nothing
-found (some c) = Found.One c
+found none = None
+found (some c) = Some c
 
 abbrev pub popping : List Chunk → (tsn : ℕ) → Sender → Out Found
-popping [] t s = same Found.Nothing s
+popping [] t s = same None s
 popping (c ∷ f) t s =
     when eqb t s.flight.oldest then
     record {
       after = record { streams = s.streams; pending = s.pending; flight = record { oldest = (s.flight.oldest + 1) % tsns; entries = f }; numbers = s.numbers };
-      says = Found.One c;
+      says = Some c;
     }
-    else same Found.Nothing s
+    else same None s
 
 unfoldable pub pop : (tsn : ℕ) → Sender → Out Found
 pop t s = popping s.flight.entries t s
@@ -64,8 +63,8 @@ has_stream id l = some_of (λ c. eqb c.message.stream id) l
 
 -- the earliest of some TSNs
 abbrev pub earliest : List ℕ → Earliest
-earliest [] = Earliest.Nothing
-earliest (t ∷ l) = Earliest.Tsn t
+earliest [] = None
+earliest (t ∷ l) = Some t
 
 -- the oldest entry neither acknowledged nor abandoned
 abbrev pub earliest_outstanding : Sender → Earliest

@@ -2,6 +2,7 @@
 -- the call's arguments to a sender and an answer. This is what a reader has to believe; the code is proved equal to it.
 pub mod Lists
 pub mod Records
+pub mod Answers
 pub mod State
 pub mod Streams
 pub mod Messages

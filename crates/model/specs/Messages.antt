@@ -1,19 +1,18 @@
 -- Document 01, "Messages": a message is cut into fragments, and these join the back of their ring.
-use Rattle.std.specs.Prelude.{ℕ, zero, suc, ◌+◌, ◌-◌, ◌/◌, ◌%◌, Bool, true, false, not, ◌&&◌, ◌||◌, List, [], ◌∷◌, ◌++◌, length, leb, ltb, eqb}
+use Rattle.std.specs.Prelude.{ℕ, zero, suc, ◌+◌, ◌-◌, ◌/◌, ◌%◌, Bool, true, false, not, ◌&&◌, ◌||◌, List, [], ◌∷◌, ◌++◌, length, leb, ltb, eqb, Ok, Err}
 use Rattle.std.proofs.Math.Option.{Option, none, some}
 use Rattle.limits.specs.Limits.{Room, offset_max, buffered_max, number_max, ssns}
-use Rattle.limits.specs.Refusals.{beyond_limit, not_open, message_long, buffer_full, ring_full, numbers_spent}
 use Rattle.model.specs.declared.Chunk.{Chunk}
-use Rattle.model.specs.declared.Lane.{Lane}
+use Rattle.model.specs.State.{Lane, Sender, Numbers, with_streams, with_pending, with_numbers, at, lane_of, with_ring, Out, same}
 use Rattle.model.specs.declared.Message.{Message}
 use Rattle.model.specs.declared.Statistics.{Statistics}
 use Rattle.model.specs.declared.Stream.{Stream}
-use Rattle.model.specs.declared.Written.{Written}
 use Rattle.model.specs.Lists.{when◌then◌else◌}
 use Rattle.model.specs.Records.{new_message}
 pub use Rattle.model.specs.Records.{piece}
-use Rattle.model.specs.State.{Sender, Numbers, with_streams, with_pending, with_numbers, at, lane_of, with_ring, Out, same}
 use Rattle.model.specs.Streams.{find, put, accounted}
+use Rattle.limits.specs.declared.Refusal.TheVariants.{BeyondLimit, NotOpen, MessageLong, BufferFull, RingFull, NumbersSpent}
+use Rattle.model.specs.Answers.{Written}
 
 -- ---- fragments
 
@@ -87,14 +86,14 @@ accepted p o l t s =
 
 -- high: the amount was below the high threshold and now is not
 abbrev pub writing : Option Stream → Room → (protocol offset length : ℕ) → Sender → Out Written
-writing none room p o l s = same (Written.Refused not_open) s
+writing none room p o l s = same (Err NotOpen) s
 writing (some t) room p o l s =
-    when ltb room.message l then same (Written.Refused message_long) s else
-    when ltb offset_max o then same (Written.Refused beyond_limit) s else
-    when ltb buffered_max (t.buffered + l) then same (Written.Refused buffer_full) s else
-    when ltb room.ring (length (at (lane_of (is_unordered p t)) s.pending) + pieces l t.maximum) then same (Written.Refused ring_full) s else
-    when leb 1 (pieces l t.maximum) && eqb s.numbers.next number_max then same (Written.Refused numbers_spent) s else
-    record { after = accepted p o l t s; says = Written.Accepted (ltb t.buffered t.high && leb t.high (t.buffered + l)) }
+    when ltb room.message l then same (Err MessageLong) s else
+    when ltb offset_max o then same (Err BeyondLimit) s else
+    when ltb buffered_max (t.buffered + l) then same (Err BufferFull) s else
+    when ltb room.ring (length (at (lane_of (is_unordered p t)) s.pending) + pieces l t.maximum) then same (Err RingFull) s else
+    when leb 1 (pieces l t.maximum) && eqb s.numbers.next number_max then same (Err NumbersSpent) s else
+    record { after = accepted p o l t s; says = Ok (ltb t.buffered t.high && leb t.high (t.buffered + l)) }
 
 unfoldable pub write : Room → (identifier protocol offset length : ℕ) → Sender → Out Written
 write room id p o l s = writing (find id s.streams) room p o l s

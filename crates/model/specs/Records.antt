@@ -1,12 +1,11 @@
 -- Every chunk, message and stream of the definitions is made or changed by one of these, so that a further field changes these alone.
-use Rattle.std.specs.Prelude.{ℕ, Bool, false}
-use Rattle.limits.specs.declared.Moment.{Moment}
-use Rattle.limits.specs.declared.Moment.TheVariants.{Absent}
+use Rattle.std.specs.Prelude.{ℕ, Bool, false, None}
 use Rattle.model.specs.declared.Chunk.{Chunk}
 use Rattle.model.specs.declared.Message.{Message}
 use Rattle.model.specs.declared.Reliability.{Reliability}
 use Rattle.model.specs.declared.Statistics.{Statistics}
 use Rattle.model.specs.declared.Stream.{Stream}
+use Rattle.limits.specs.Moments.{Moment}
 
 -- ---- a stream
 
@@ -47,7 +46,7 @@ make_message id n u p k r d =
 
 -- a message as it is written: its lifetime starts later
 abbrev pub new_message : (unordered : Bool) → (protocol number : ℕ) → Stream → Message
-new_message u p k t = make_message t.identifier t.ssn u p k t.reliability Absent
+new_message u p k t = make_message t.identifier t.ssn u p k t.reliability None
 
 -- what words that are 0 read as
 abbrev pub blank_message : Message
@@ -72,7 +71,7 @@ make_chunk x b e o l s n a d r =
 
 -- one fragment, as it is written
 abbrev pub piece : Message → (beginning ending : Bool) → (offset length : ℕ) → Chunk
-piece x b e o l = make_chunk x b e o l Absent 0 false false false
+piece x b e o l = make_chunk x b e o l None 0 false false false
 
 -- what words that are 0 read as
 abbrev pub blank_chunk : Chunk

@@ -2,12 +2,12 @@
 use Rattle.std.specs.Prelude.{ℕ, ◌-◌, List, [], ◌∷◌, ◌++◌, length}
 use Rattle.limits.specs.Limits.{Room}
 use Rattle.model.specs.declared.Block.{Block}
-use Rattle.model.specs.declared.Sacked.{Sacked}
 use Rattle.model.specs.Lists.{when◌then◌else◌}
 use Rattle.model.specs.State.{Sender, Out}
 use Rattle.model.specs.Calls.{Call, Answer, told, step}
 use Rattle.model.specs.Sack.{cumulative_of, is_sack, blocks_in, all_within}
 use Rattle.model.specs.Sacks.{covered, is_stale, sack_calls, sack}
+use Rattle.model.specs.Answers.{Sacked}
 
 pub data Request : Type 0 where
   Single : Call → Request

@@ -1,28 +1,20 @@
 -- Document 01, "Rings": which chunk is sent next, lifetimes, sending, expiry and abandonment.
-use Rattle.std.specs.Prelude.{ℕ, suc, ◌+◌, ◌-◌, ◌%◌, Bool, true, false, not, ◌&&◌, ◌||◌, List, [], ◌∷◌, ◌++◌, map, length, leb, ltb, eqb}
+use Rattle.std.specs.Prelude.{ℕ, suc, ◌+◌, ◌-◌, ◌%◌, Bool, true, false, not, ◌&&◌, ◌||◌, List, [], ◌∷◌, ◌++◌, map, length, leb, ltb, eqb, Result, Some, None, Ok, Err}
 use Rattle.std.proofs.Math.Option.{Option, none, some}
 use Rattle.limits.specs.Limits.{Room, clock_max, ssns, tsns}
-use Rattle.limits.specs.Refusals.{beyond_limit, flight_full, list_short}
 use Rattle.limits.specs.Moments.{passed}
-use Rattle.limits.specs.declared.Moment.TheVariants.{Absent, At}
 use Rattle.model.specs.declared.Chunk.{Chunk}
-use Rattle.model.specs.declared.Lane.{Lane}
-use Rattle.model.specs.declared.Lane.TheVariants.{Unordered, Ordered}
+use Rattle.model.specs.State.{Lane, Unordered, Ordered, UnderWay, Idle, Sending, Sender, Pending, with_streams, with_pending, with_entries, with_numbers, at, in_rings, with_ring, next_tsn, in_flight, is_of, Out, same}
 use Rattle.model.specs.declared.Message.{Message}
 use Rattle.model.specs.declared.Stream.{Stream}
-use Rattle.model.specs.declared.UnderWay.{UnderWay}
-use Rattle.model.specs.declared.UnderWay.TheVariants.{Idle, Sending}
-use Rattle.model.specs.declared.Done.{Done}
-use Rattle.model.specs.declared.Sent.{Sent}
-use Rattle.model.specs.declared.Expired.{Expired}
-use Rattle.model.specs.declared.TailExpired.{TailExpired}
-use Rattle.model.specs.declared.Abandoned.{Abandoned}
 use Rattle.model.specs.Lists.{when◌then◌else◌, keep, some_of, first, last, total}
 use Rattle.model.specs.Records.{flagged, sent_as}
 pub use Rattle.model.specs.Records.{with_message, renewed, marked}
-use Rattle.model.specs.State.{Sender, Pending, with_streams, with_pending, with_entries, with_numbers, at, in_rings, with_ring, next_tsn, in_flight, is_of, Out, same}
 use Rattle.model.specs.Streams.{find, put, accounted}
 use Rattle.model.specs.Messages.{is_dcep}
+use Rattle.limits.specs.declared.Refusal.TheVariants.{BeyondLimit, FlightFull, ListShort}
+use Rattle.limits.specs.declared.Refusal.{Refusal}
+use Rattle.model.specs.Answers.{Done, Sent, Expired, TailExpired, Abandoned, did, expired_message, expired_rest, abandoned_message}
 
 -- ---- the head: of the message under way if there is one; else the unordered front; else the ordered front
 
@@ -45,7 +37,7 @@ has_lifetime x = eqb x.reliability.kind 2 && not (is_dcep x.protocol)
 
 -- a message not yet seen gets its deadline
 abbrev pub begun : (now unstarted : ℕ) → Message → Message
-begun now k x = when leb k x.number && has_lifetime x then renewed x.ssn (At (now + x.reliability.value)) x else x
+begun now k x = when leb k x.number && has_lifetime x then renewed x.ssn (Some (now + x.reliability.value)) x else x
 
 abbrev pub started : (now unstarted : ℕ) → Chunk → Chunk
 started now k c = with_message (begun now k c.message) c
@@ -67,14 +59,14 @@ with_lifetimes now s =
 
 unfoldable pub start_lifetimes : (now : ℕ) → Sender → Out Done
 start_lifetimes now s =
-    when ltb clock_max now then same (Done.Refused beyond_limit) s else
-    record { after = with_lifetimes now s; says = Done.Done }
+    when ltb clock_max now then same (Err BeyondLimit) s else
+    record { after = with_lifetimes now s; says = did }
 
 -- ---- send: 1; nothing on empty rings; 10
 
 -- since = now, nsent = 1
 abbrev pub sent_at : (now : ℕ) → Chunk → Chunk
-sent_at now c = sent_as (At now) 1 c
+sent_at now c = sent_as (Some now) 1 c
 
 -- a non-ending fragment puts its message under way, an ending one ends that
 abbrev pub under_way_after : Lane → Chunk → UnderWay
@@ -88,14 +80,14 @@ taken l now c x s =
 
 -- s is the sender before the call, and s' has its lifetimes started: a refused send starts none, and one that answers nothing does
 abbrev pub sending : Lane → List Chunk → Room → (now : ℕ) → (s s' : Sender) → Out Sent
-sending l [] room now s s' = same Sent.Nothing s'
+sending l [] room now s s' = same (Ok None) s'
 sending l (c ∷ x) room now s s' =
-    when leb room.flight (suc (length s.flight.entries)) then same (Sent.Refused flight_full) s else
-    record { after = taken l now c x s'; says = Sent.Yielded (next_tsn s) (sent_at now c) }
+    when leb room.flight (suc (length s.flight.entries)) then same (Err FlightFull) s else
+    record { after = taken l now c x s'; says = Ok (Some (next_tsn s, sent_at now c)) }
 
 unfoldable pub send : Room → (now : ℕ) → Sender → Out Sent
 send room now s =
-    when ltb clock_max now then same (Sent.Refused beyond_limit) s else
+    when ltb clock_max now then same (Err BeyondLimit) s else
     let p = (with_lifetimes now s).pending in sending (head_lane p) (at (head_lane p) p) room now s (with_lifetimes now s)
 
 -- ---- a message leaves the rings
@@ -140,18 +132,18 @@ abbrev pub expires : (now : ℕ) → Chunk → Bool
 expires now c = c.beginning && (leb 1 c.length && overdue now c)
 
 abbrev pub expiring : Option Chunk → (now : ℕ) → Sender → Out Expired
-expiring none now s = same Expired.Nothing s
+expiring none now s = same (Ok None) s
 expiring (some c) now s =
     let x = c.message in
     when expires now c then
     record {
       after = compacted x.unordered x.stream (with_pending (without x.number s.pending) s);
-      says = Expired.Message x.stream x.unordered (bytes (pending_of x.number s.pending));
+      says = expired_message x.stream x.unordered (bytes (pending_of x.number s.pending));
     }
-    else same Expired.Nothing s
+    else same (Ok None) s
 
 unfoldable pub expire_pending : (now : ℕ) → Sender → Out Expired
-expire_pending now s = when ltb clock_max now then same (Expired.Refused beyond_limit) s else expiring (head s.pending) now s
+expire_pending now s = when ltb clock_max now then same (Err BeyondLimit) s else expiring (head s.pending) now s
 
 -- ---- abandoning a message
 
@@ -161,7 +153,7 @@ given_up n c = when is_of n c then marked 0 c.acked true false c else c
 
 -- the last removed chunk's fields, no bytes, B off, E on, abandoned, not to retransmit, since absent, nsent 0
 abbrev pub terminator : Chunk → Chunk
-terminator c = marked 0 c.acked true false (flagged false true (sent_as Absent 0 c))
+terminator c = marked 0 c.acked true false (flagged false true (sent_as None 0 c))
 
 -- one terminator if there were pending chunks
 abbrev pub terminators : (lastRemoved : Option Chunk) → List Chunk
@@ -180,11 +172,11 @@ held_by n s = bytes (keep (is_of n) s.flight.entries) + bytes (pending_of n s.pe
 -- ---- abandon: names a TSN in flight, whatever its reliability
 
 abbrev pub abandoning : Option Chunk → Sender → Out Abandoned
-abandoning none s = same Abandoned.Nothing s
+abandoning none s = same None s
 abandoning (some c) s =
     let x = c.message in
-    when c.abandoned then same (Abandoned.Message x.stream 0) s else
-    record { after = abandoned x.number s; says = Abandoned.Message x.stream (held_by x.number s) }
+    when c.abandoned then same (abandoned_message x.stream 0) s else
+    record { after = abandoned x.number s; says = abandoned_message x.stream (held_by x.number s) }
 
 unfoldable pub abandon : (tsn : ℕ) → Sender → Out Abandoned
 abandon t s = abandoning (in_flight t s.flight) s
@@ -195,21 +187,20 @@ abbrev pub tail_expires : (now : ℕ) → Chunk → Bool
 tail_expires now c = not c.beginning && overdue now c
 
 abbrev pub tail_expiring : Option Chunk → (now : ℕ) → Sender → Out TailExpired
-tail_expiring none now s = same TailExpired.Nothing s
+tail_expiring none now s = same (Ok None) s
 tail_expiring (some c) now s =
     let x = c.message in
     when tail_expires now c then
-    record { after = abandoned x.number s; says = TailExpired.Message x.stream x.number (held_by x.number s) }
-    else same TailExpired.Nothing s
+    record { after = abandoned x.number s; says = expired_rest x.stream x.number (held_by x.number s) }
+    else same (Ok None) s
 
 unfoldable pub expire_pending_tail : (now : ℕ) → Sender → Out TailExpired
-expire_pending_tail now s = when ltb clock_max now then same (TailExpired.Refused beyond_limit) s else tail_expiring (head s.pending) now s
+expire_pending_tail now s = when ltb clock_max now then same (Err BeyondLimit) s else tail_expiring (head s.pending) now s
 
 -- ---- expired_inflight: 1, 11. Oldest first, each TSN not abandoned, at or past its deadline, and unacknowledged or still pending
 
-pub data Listing : Type 0 where
-  tsns_are : List ℕ → Listing
-  refused : (number : ℕ) → Listing
+abbrev pub Listing : Type 0
+Listing = Result (List ℕ) Refusal
 
 abbrev pub expired_entry : (now : ℕ) → Pending → Chunk → Bool
 expired_entry now p c =
@@ -221,9 +212,9 @@ tsns_of p t [] = []
 tsns_of p t (c ∷ f) = when p c then (t ∷ tsns_of p ((t + 1) % tsns) f) else tsns_of p ((t + 1) % tsns) f
 
 abbrev pub listing : (room : ℕ) → List ℕ → Listing
-listing n l = when ltb n (length l) then refused list_short else tsns_are l
+listing n l = when ltb n (length l) then Err ListShort else Ok l
 
 unfoldable pub expired_inflight : (now room : ℕ) → Sender → Listing
 expired_inflight now n s =
-    when ltb clock_max now then refused beyond_limit else
+    when ltb clock_max now then Err BeyondLimit else
     listing n (tsns_of (expired_entry now s.pending) s.flight.oldest s.flight.entries)

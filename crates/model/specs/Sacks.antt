@@ -1,10 +1,8 @@
 -- What reading a SACK does. An accepted one is a list of single calls: the covered prefix is acknowledged and popped, then the blocks are
 -- acknowledged.
-use Rattle.std.specs.Prelude.{ℕ, zero, suc, ◌+◌, ◌-◌, ◌%◌, Bool, ◌||◌, List, [], ◌∷◌, ◌++◌, map, length, leb, ltb}
+use Rattle.std.specs.Prelude.{ℕ, zero, suc, ◌+◌, ◌-◌, ◌%◌, Bool, ◌||◌, List, [], ◌∷◌, ◌++◌, map, length, leb, ltb, Some, None, Ok, Err}
 use Rattle.limits.specs.Limits.{Room, tsns}
-use Rattle.limits.specs.Refusals.{bad_sack, bad_block}
 use Rattle.model.specs.declared.Block.{Block}
-use Rattle.model.specs.declared.Sacked.{Sacked}
 use Rattle.model.specs.Lists.{when◌then◌else◌, total}
 use Rattle.model.specs.State.{Sender, Flight, Out, same}
 use Rattle.model.specs.Sack.{cumulative_of, is_sack, blocks_in, all_within}
@@ -30,6 +28,8 @@ use Rattle.model.specs.Calls.{
   run,
   answers,
 }
+use Rattle.limits.specs.declared.Refusal.TheVariants.{BadSack, BadBlock}
+use Rattle.model.specs.Answers.{Sacked}
 
 -- ---- which entries
 
@@ -79,10 +79,10 @@ bytes_in (yes_no b) = 0
 
 abbrev pub sacking : Room → (cumulative : ℕ) → List Block → Sender → Out Sacked
 sacking room t l s =
-    when is_stale t s.flight then same Sacked.Stale s else
+    when is_stale t s.flight then same (Ok None) s else
     when all_within (length s.flight.entries - covered t s.flight) l then
-    record { after = run room (sack_calls t l s.flight) s; says = Sacked.Released (total bytes_in (answers room (sack_calls t l s.flight) s)) }
-    else same (Sacked.Refused bad_block) s
+    record { after = run room (sack_calls t l s.flight) s; says = Ok (Some (total bytes_in (answers room (sack_calls t l s.flight) s))) }
+    else same (Err BadBlock) s
 
 unfoldable pub sack : Room → (packet : List ℕ) → Sender → Out Sacked
-sack room p s = when is_sack p then sacking room (cumulative_of p) (blocks_in p) s else same (Sacked.Refused bad_sack) s
+sack room p s = when is_sack p then sacking room (cumulative_of p) (blocks_in p) s else same (Err BadSack) s

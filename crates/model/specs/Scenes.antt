@@ -1,15 +1,9 @@
 -- 01's rules in small scenes that the checker computes: the calls, and what they answer. A sender with room for two streams, messages of
 -- 12 bytes, four chunks in a ring and four entries in flight; stream 1 is ordered, stream 2 unordered and Timed with a lifetime of 5.
-use Rattle.std.specs.Prelude.{ℕ, Bool, true, false, ◌≡◌, List, [], ◌∷◌, ◌++◌, replicate}
+use Rattle.std.specs.Prelude.{ℕ, Bool, true, false, ◌≡◌, List, [], ◌∷◌, ◌++◌, replicate, Some, None, Ok, Err}
 use Rattle.limits.specs.Limits.{Room}
-use Rattle.model.specs.declared.Abandoned.{Abandoned}
+use Rattle.limits.specs.Refusals.{refusal_number}
 use Rattle.model.specs.declared.Chunk.{Chunk}
-use Rattle.model.specs.declared.Expired.{Expired}
-use Rattle.model.specs.declared.Found.{Found}
-use Rattle.model.specs.declared.Laid.{Laid}
-use Rattle.model.specs.declared.Sacked.{Sacked}
-use Rattle.model.specs.declared.Sent.{Sent}
-use Rattle.model.specs.declared.TailExpired.{TailExpired}
 use Rattle.model.specs.State.{Sender, fresh}
 use Rattle.model.specs.Messages.{flags}
 use Rattle.model.specs.Calls.{
@@ -43,10 +37,10 @@ use Rattle.model.specs.Calls.{
   step,
   run,
 }
-use Rattle.model.specs.Rings.{tsns_are, refused}
 use Rattle.model.specs.Lists.{when◌then◌else◌}
 use Rattle.model.specs.Sacks.{sack}
 use Rattle.model.specs.Data.{data_chunk}
+use Rattle.model.specs.Answers.{Sent, Expired, TailExpired, Abandoned, Sacked, Laid}
 
 abbrev pub small : Room
 small = record { streams = 2; message = 12; ring = 4; flight = 4 }
@@ -64,23 +58,23 @@ bit b = when b then 1 else 0
 
 -- an answer in a row: of a send 1, the TSN and the chunk; of a removal what it names; 0 for nothing; 99 and its number for a refusal
 abbrev pub sent_row : Sent → List ℕ
-sent_row (Sent.Yielded t c) = 1 ∷ t ∷ chunk_row c
-sent_row Sent.Nothing = 0 ∷ []
-sent_row (Sent.Refused n) = 99 ∷ n ∷ []
+sent_row (Ok (Some (t, c))) = 1 ∷ t ∷ chunk_row c
+sent_row (Ok None) = 0 ∷ []
+sent_row (Err r) = 99 ∷ refusal_number r ∷ []
 
 abbrev pub expired_row : Expired → List ℕ
-expired_row (Expired.Message i u b) = i ∷ bit u ∷ b ∷ []
-expired_row Expired.Nothing = 0 ∷ []
-expired_row (Expired.Refused n) = 99 ∷ n ∷ []
+expired_row (Ok (Some x)) = x.stream ∷ bit x.unordered ∷ x.bytes ∷ []
+expired_row (Ok None) = 0 ∷ []
+expired_row (Err r) = 99 ∷ refusal_number r ∷ []
 
 abbrev pub tail_row : TailExpired → List ℕ
-tail_row (TailExpired.Message i m b) = i ∷ m ∷ b ∷ []
-tail_row TailExpired.Nothing = 0 ∷ []
-tail_row (TailExpired.Refused n) = 99 ∷ n ∷ []
+tail_row (Ok (Some x)) = x.stream ∷ x.number ∷ x.bytes ∷ []
+tail_row (Ok None) = 0 ∷ []
+tail_row (Err r) = 99 ∷ refusal_number r ∷ []
 
 abbrev pub abandoned_row : Abandoned → List ℕ
-abandoned_row (Abandoned.Message i b) = i ∷ b ∷ []
-abandoned_row Abandoned.Nothing = 0 ∷ []
+abandoned_row (Some x) = x.stream ∷ x.bytes ∷ []
+abandoned_row None = 0 ∷ []
 
 abbrev pub row : Answer → List ℕ
 row (to_do a) = []
@@ -90,13 +84,13 @@ row (to_send a) = sent_row a
 row (to_expire a) = expired_row a
 row (to_expire_tail a) = tail_row a
 row (to_abandon a) = abandoned_row a
-row (to_find (Found.One c)) = chunk_row c
-row (to_find Found.Nothing) = 0 ∷ []
+row (to_find (Some c)) = chunk_row c
+row (to_find None) = 0 ∷ []
 row (to_seek a) = []
 row (to_measure a) = []
 row (to_count a) = []
-row (to_list (tsns_are l)) = l
-row (to_list (refused n)) = 99 ∷ n ∷ []
+row (to_list (Ok l)) = l
+row (to_list (Err r)) = 99 ∷ refusal_number r ∷ []
 row (number x) = x ∷ []
 row (yes_no b) = bit b ∷ []
 
@@ -197,9 +191,9 @@ bytes_of_sack n t k l = 3 ∷ 0 ∷ 0 ∷ n ∷ (t ++ 0 ∷ 0 ∷ 0 ∷ 0 ∷ 0 
 
 -- 1 and the bytes released; 0 for a stale one; 99 and its number for a refusal
 abbrev pub sacked_row : Sacked → List ℕ
-sacked_row (Sacked.Released b) = 1 ∷ b ∷ []
-sacked_row Sacked.Stale = 0 ∷ []
-sacked_row (Sacked.Refused n) = 99 ∷ n ∷ []
+sacked_row (Ok (Some b)) = 1 ∷ b ∷ []
+sacked_row (Ok None) = 0 ∷ []
+sacked_row (Err r) = 99 ∷ refusal_number r ∷ []
 
 -- a packet and what it should answer
 pub record Read : Type 0 where
@@ -241,8 +235,8 @@ pub record Wrote : Type 0 where
   pub after : List ℕ
 
 abbrev pub laid_row : Laid → List ℕ
-laid_row (Laid.Bytes n) = 1 ∷ n ∷ []
-laid_row (Laid.Refused n) = 99 ∷ n ∷ []
+laid_row (Ok n) = 1 ∷ n ∷ []
+laid_row (Err r) = 99 ∷ refusal_number r ∷ []
 
 -- the same with what the model answers and leaves
 abbrev pub writing : List Wrote → Sender → List Wrote

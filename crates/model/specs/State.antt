@@ -5,10 +5,15 @@ use Rattle.std.proofs.Math.ListN.{get_elem?}
 use Rattle.limits.specs.Limits.{tsns}
 use Rattle.model.specs.declared.Chunk.{Chunk}
 use Rattle.model.specs.declared.Stream.{Stream}
-use Rattle.model.specs.declared.Lane.{Lane}
-use Rattle.model.specs.declared.Lane.TheVariants.{Unordered, Ordered}
-use Rattle.model.specs.declared.UnderWay.{UnderWay}
-use Rattle.model.specs.declared.UnderWay.TheVariants.{Idle}
+
+-- the two rings of pending chunks
+pub data Lane : Type 0 where
+  Unordered Ordered : Lane
+
+-- whether a message has been sent in part: then its rest stands in front of this ring
+pub data UnderWay : Type 0 where
+  Idle : UnderWay
+  Sending : Lane → UnderWay
 
 -- what is pending: the two rings, front first, and the ring whose front is the rest of a message that has been sent in part
 pub record Pending : Type 0 where

@@ -1,17 +1,14 @@
 -- Opening a stream, its settings, and the buffered amount.
-use Rattle.std.specs.Prelude.{ℕ, ◌-◌, Bool, not, ◌&&◌, List, [], ◌∷◌, ◌++◌, length, leb, ltb, eqb, ℤ, pos, negsuc}
+use Rattle.std.specs.Prelude.{ℕ, ◌-◌, Bool, not, ◌&&◌, List, [], ◌∷◌, ◌++◌, length, leb, ltb, eqb, ℤ, pos, negsuc, Ok, Err}
 use Rattle.std.proofs.Math.Option.{Option, none, some}
 use Rattle.limits.specs.Limits.{Room, payload_max}
-use Rattle.limits.specs.Refusals.{bad_bounds, not_open, already_open, streams_full}
 use Rattle.model.specs.declared.Stream.{Stream}
-use Rattle.model.specs.declared.Done.{Done}
-use Rattle.model.specs.declared.Released.{Released}
-use Rattle.model.specs.declared.Amount.{Amount}
-use Rattle.model.specs.declared.Counted.{Counted}
 use Rattle.model.specs.Lists.{when◌then◌else◌}
 use Rattle.model.specs.Records.{new_stream}
 pub use Rattle.model.specs.Records.{delivering, thresholds, accounted}
 use Rattle.model.specs.State.{Sender, with_streams, Out, same}
+use Rattle.limits.specs.declared.Refusal.TheVariants.{BadBounds, NotOpen, AlreadyOpen, StreamsFull}
+use Rattle.model.specs.Answers.{Done, Released, Amount, Counted, did}
 
 -- ---- the table of streams
 
@@ -31,21 +28,21 @@ abbrev pub opened : (identifier maximum : ℕ) → Stream
 opened id m = new_stream id m 18446744073709551615
 
 abbrev pub open_new : Option Stream → Room → (identifier maximum : ℕ) → Sender → Out Done
-open_new (some t) room id m s = same (Done.Refused already_open) s
+open_new (some t) room id m s = same (Err AlreadyOpen) s
 open_new none room id m s =
-    when leb room.streams (length s.streams) then same (Done.Refused streams_full) s else
-    record { after = with_streams (s.streams ++ (opened id m ∷ [])) s; says = Done.Done }
+    when leb room.streams (length s.streams) then same (Err StreamsFull) s else
+    record { after = with_streams (s.streams ++ (opened id m ∷ [])) s; says = did }
 
 unfoldable pub open_stream : Room → (identifier maximum : ℕ) → Sender → Out Done
 open_stream room id m s =
-    when not (leb 1 m && leb m payload_max) then same (Done.Refused bad_bounds) s else open_new (find id s.streams) room id m s
+    when not (leb 1 m && leb m payload_max) then same (Err BadBounds) s else open_new (find id s.streams) room id m s
 
 -- ---- reliability and the two thresholds: 3. Any values
 
 -- an open stream is changed
 abbrev pub changed : Option Stream → (Stream → Stream) → Sender → Out Done
-changed none f s = same (Done.Refused not_open) s
-changed (some t) f s = record { after = with_streams (put (f t) s.streams) s; says = Done.Done }
+changed none f s = same (Err NotOpen) s
+changed (some t) f s = record { after = with_streams (put (f t) s.streams) s; says = did }
 
 unfoldable pub set_reliability : (identifier : ℕ) → (unordered : Bool) → (kind value : ℕ) → Sender → Out Done
 set_reliability id u k v s = changed (find id s.streams) (delivering u (record { kind = k; value = v })) s
@@ -65,11 +62,11 @@ reduced (negsuc n) b = b
 
 -- yes exactly when the amount was above the low threshold and now is not
 abbrev pub releasing : Option Stream → ℤ → Sender → Out Released
-releasing none r s = same (Released.Refused not_open) s
+releasing none r s = same (Err NotOpen) s
 releasing (some t) r s =
     record {
       after = with_streams (put (accounted t.ssn (reduced r t.buffered) t.statistics t) s.streams) s;
-      says = Released.Told (ltb t.low t.buffered && leb (reduced r t.buffered) t.low);
+      says = Ok (ltb t.low t.buffered && leb (reduced r t.buffered) t.low);
     }
 
 unfoldable pub release : (identifier : ℕ) → ℤ → Sender → Out Released
@@ -78,9 +75,9 @@ release id r s = releasing (find id s.streams) r s
 -- ---- what is asked of a stream: 3
 
 abbrev pub amount : Option Stream → (Stream → ℕ) → Amount
-amount none f = Amount.Refused not_open
-amount (some t) f = Amount.Is (f t)
+amount none f = Err NotOpen
+amount (some t) f = Ok (f t)
 
 abbrev pub counts : Option Stream → Counted
-counts none = Counted.Refused not_open
-counts (some t) = Counted.Are t.statistics
+counts none = Err NotOpen
+counts (some t) = Ok t.statistics

@@ -58,113 +58,27 @@ pub struct Stream {
     pub statistics: Statistics,
 }
 
-// The two rings of pending chunks.
+// What an expiry frees: a message of which nothing was sent.
 #[derive(Clone, Copy)]
-pub enum Lane {
-    Unordered,
-    Ordered,
+pub struct ExpiredMessage {
+    pub stream: u16,
+    pub unordered: bool,
+    pub bytes: u64,
 }
 
-// Whether a message has been sent in part: then its rest stands in front of this ring.
+// What the expiry of a tail gives up: the rest of the message under way.
 #[derive(Clone, Copy)]
-pub enum UnderWay {
-    Idle,
-    Sending(Lane),
+pub struct ExpiredTail {
+    pub stream: u16,
+    pub number: u64,
+    pub bytes: u64,
 }
 
-// Opening a stream, setting its reliability or a threshold, starting lifetimes, marking all.
+// What an abandonment gives up: the message of a TSN.
 #[derive(Clone, Copy)]
-pub enum Done {
-    Done,
-    Refused(u8),
-}
-
-// Writing a message: whether the buffered amount reached the high threshold.
-#[derive(Clone, Copy)]
-pub enum Written {
-    Accepted(bool),
-    Refused(u8),
-}
-
-// Releasing buffered bytes: whether the amount fell to the low threshold.
-#[derive(Clone, Copy)]
-pub enum Released {
-    Told(bool),
-    Refused(u8),
-}
-
-// Sending: the TSN and the chunk.
-#[derive(Clone, Copy)]
-pub enum Sent {
-    Yielded(u32, Chunk),
-    Nothing,
-    Refused(u8),
-}
-
-// Expiring a message of which nothing was sent.
-#[derive(Clone, Copy)]
-pub enum Expired {
-    Message {
-        stream: u16,
-        unordered: bool,
-        bytes: u64,
-    },
-    Nothing,
-    Refused(u8),
-}
-
-// Expiring the rest of the message under way.
-#[derive(Clone, Copy)]
-pub enum TailExpired {
-    Message {
-        stream: u16,
-        number: u64,
-        bytes: u64,
-    },
-    Nothing,
-    Refused(u8),
-}
-
-// Abandoning the message of a TSN.
-#[derive(Clone, Copy)]
-pub enum Abandoned {
-    Message { stream: u16, bytes: u64 },
-    Nothing,
-}
-
-// The entry of a TSN, the entry that is popped, or the pending head.
-#[derive(Clone, Copy)]
-pub enum Found {
-    One(Chunk),
-    Nothing,
-}
-
-// How many expired TSNs stand in the lent list.
-#[derive(Clone, Copy)]
-pub enum Listed {
-    Count(usize),
-    Refused(u8),
-}
-
-// The oldest TSN that is neither acknowledged nor abandoned.
-#[derive(Clone, Copy)]
-pub enum Earliest {
-    Tsn(u32),
-    Nothing,
-}
-
-// A number kept for a stream: its buffered amount or a threshold.
-#[derive(Clone, Copy)]
-pub enum Amount {
-    Is(u64),
-    Refused(u8),
-}
-
-// A stream's statistics.
-#[derive(Clone, Copy)]
-pub enum Counted {
-    Are(Statistics),
-    Refused(u8),
+pub struct AbandonedMessage {
+    pub stream: u16,
+    pub bytes: u64,
 }
 
 // A gap block of a SACK: it acknowledges the TSNs from `start` to `end` behind the cumulative one.
@@ -174,31 +88,13 @@ pub struct Block {
     pub end: u16,
 }
 
-// Reading a SACK: the bytes that were released.
-#[derive(Clone, Copy)]
-pub enum Sacked {
-    Released(u64),
-    Stale,
-    Refused(u8),
-}
-
-// Writing a chunk: how many bytes it takes in the lent output, padding included.
-#[derive(Clone, Copy)]
-pub enum Laid {
-    Bytes(usize),
-    Refused(u8),
-}
-
 // What the bytes of a DATA chunk say; `length` counts the payload, which stands behind the 16 bytes of the header.
 #[derive(Clone, Copy)]
-pub enum Data {
-    Chunk {
-        tsn: u32,
-        stream: u16,
-        ssn: u16,
-        flags: u8,
-        protocol: u32,
-        length: u16,
-    },
-    Other,
+pub struct DataChunk {
+    pub tsn: u32,
+    pub stream: u16,
+    pub ssn: u16,
+    pub flags: u8,
+    pub protocol: u32,
+    pub length: u16,
 }

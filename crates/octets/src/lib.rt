@@ -2,117 +2,76 @@
 // written, so no call asks anything of its caller.
 #![tactic(auto)]
 
-ghost use Rattle.std.specs.Prelude.{◌≡◌, [], ◌∷◌, ◌-◌, min};
+ghost use Rattle.std.specs.Prelude.{◌≡◌, ℕ, [], ◌∷◌, ◌+◌, ◌<◌, slice_index};
 ghost use Rattle.std.proofs.lemmas.List.Edits.{sets};
 ghost use Rattle.octets.specs.Numbers.{byte_at, short_at, long_at, short_bytes, long_bytes, zeros};
+
+use std::array;
 
 // ---- reading
 
 pub fn byte(bytes: &[u8], at: usize) -> u8
     ensures { result ≡ byte_at at bytes.now }
 {
-    if bytes.len() <= at {
-        return 0;
-    }
-    bytes[at]
+    bytes.get(at).copied().unwrap_or(0)
+}
+
+// So many bytes from `at` on.
+fn part<const N: usize>(bytes: &[u8], at: usize) -> [u8; N]
+    ensures { (k : ℕ) → k < N → slice_index result k ≡ byte_at (at + k) bytes.now }
+{
+    let rest = &bytes[at.min(bytes.len())..];
+    array::from_fn(|k| byte(rest, k))
 }
 
 pub fn short(bytes: &[u8], at: usize) -> u16
     ensures { result ≡ short_at at bytes.now }
 {
-    if bytes.len() <= at {
-        return 0;
-    }
-    let high = byte(bytes, at) as u16;
-    let low = byte(bytes, at + 1) as u16;
-    high * 256 + low
+    u16::from_be_bytes(part(bytes, at))
 }
 
 pub fn long(bytes: &[u8], at: usize) -> u32
     ensures { result ≡ long_at at bytes.now }
 {
-    if bytes.len() <= at {
-        return 0;
-    }
-    let high = short(bytes, at) as u32 * 65_536;
-    if bytes.len() - at <= 2 {
-        return high;
-    }
-    high + short(bytes, at + 2) as u32
+    u32::from_be_bytes(part(bytes, at))
 }
 
-// ---- writing
+// ---- writing. `at` is the place of a field in a chunk's layout, and no length of what stands in the bytes
 
 pub fn put_byte(out: &mut [u8], at: usize, number: u8)
     ensures { out.new ≡ sets out.old at (number ∷ []) }
 {
-    if out.len() <= at {
-        return;
-    }
-    out[at] = number;
+    copy(out, at, &[number]);
 }
 
 pub fn put_short(out: &mut [u8], at: usize, number: u16)
     ensures { out.new ≡ sets out.old at (short_bytes number) }
 {
-    if out.len() <= at {
-        return;
-    }
-    out[at] = (number / 256) as u8;
-    if out.len() - at <= 1 {
-        return;
-    }
-    out[at + 1] = (number % 256) as u8;
+    copy(out, at, &number.to_be_bytes());
 }
 
 pub fn put_long(out: &mut [u8], at: usize, number: u32)
     ensures { out.new ≡ sets out.old at (long_bytes number) }
 {
-    if out.len() <= at {
-        return;
-    }
-    put_short(out, at, (number / 65_536) as u16);
-    if out.len() - at <= 2 {
-        return;
-    }
-    put_short(out, at + 2, (number % 65_536) as u16);
+    copy(out, at, &number.to_be_bytes());
 }
 
 // ---- runs of bytes
-
-// How many bytes are written from `at` on, where there are so many left.
-fn room(len: usize, at: usize, wanted: usize) -> usize
-    ensures { result ≡ min wanted (len - at) }
-{
-    if len <= at {
-        return 0;
-    }
-    if len - at < wanted {
-        return len - at;
-    }
-    wanted
-}
 
 // All bytes of a slice.
 pub fn copy(out: &mut [u8], at: usize, from: &[u8])
     ensures { out.new ≡ sets out.old at from.now }
 {
-    let n = room(out.len(), at, from.len());
-    let mut i: usize = 0;
-    while i < n {
-        out[at + i] = from[i];
-        i += 1;
-    }
+    let start = at.min(out.len());
+    let count = from.len().min(out.len() - start);
+    out[start..start + count].copy_from_slice(&from[..count]);
 }
 
 // So many zeros.
 pub fn clear(out: &mut [u8], at: usize, count: usize)
     ensures { out.new ≡ sets out.old at (zeros count) }
 {
-    let n = room(out.len(), at, count);
-    let mut i: usize = 0;
-    while i < n {
-        out[at + i] = 0;
-        i += 1;
-    }
+    let start = at.min(out.len());
+    let end = start + count.min(out.len() - start);
+    out[start..end].fill(0);
 }

@@ -1,5 +1,5 @@
 -- A message is abandoned: what each way out of the calls comes to, of a sender that is a variable.
-use Rattle.std.specs.Prelude.{◌≡◌, Bool, true, false, not, ℕ, ◌+◌, ◌<◌}
+use Rattle.std.specs.Prelude.{◌≡◌, Bool, true, false, not, ℕ, ◌+◌, ◌<◌, Some, None}
 use Rattle.std.proofs.Math.Path.{refl, sym, ap, ap₂}
 use Rattle.std.proofs.Common.{◌∙◌, arith, lt-ltb, eq-eqb}
 use Rattle.std.proofs.Math.Option.{Option, none, some}
@@ -7,13 +7,9 @@ use mathlib.Core.List.{List, [], ◌∷◌, ◌++◌, map, append-nil}
 use Rattle.std.proofs.Math.ListN.{length}
 use Rattle.std.proofs.lemmas.List.{length-map}
 use Rattle.limits.specs.Limits.{Room}
-use Rattle.model.specs.declared.Abandoned.{Abandoned}
 use Rattle.model.specs.declared.Chunk.{Chunk}
-use Rattle.model.specs.declared.Found.{Found}
-use Rattle.model.specs.declared.Lane.{Lane}
-use Rattle.model.specs.declared.Lane.TheVariants.{Unordered, Ordered}
+use Rattle.model.specs.State.{Lane, Unordered, Ordered, Sender, Pending, Flight, Out, same, at, place, in_flight, is_of, with_pending}
 use Rattle.model.specs.Lists.{when◌then◌else◌, keep, last}
-use Rattle.model.specs.State.{Sender, Pending, Flight, Out, same, at, place, in_flight, is_of, with_pending}
 use Rattle.model.specs.Rings.{bytes, pending_of, without, given_up, terminator, terminators, abandoned, held_by, abandoning, abandon}
 use Rattle.model.specs.Flight.{found}
 use Rattle.demands.specs.Words.{number_under_way}
@@ -26,6 +22,7 @@ use Rattle.outbound_queue.specs.Outbound.{Good}
 use Rattle.outbound_abandon.specs.Together.{has_entry, AllNear, near_entry}
 use Rattle.outbound_abandon.specs.Lean.{closed_by, leanly_abandoned, leanly_held, leanly_abandoning, lean_abandon}
 use Rattle.ring.specs.Held.{found_some, found_none}
+use Rattle.model.specs.Answers.{Abandoned, abandoned_message}
 
 -- ---- in a Good state the runs are the whole message, and its terminator has a place
 
@@ -78,7 +75,7 @@ module _ {room : Room} {s : Sender} (g : Good room s) where
           let f = has_entry s.flight.entries i c e in
           let run = g.flight_run n f in
           let left : (d : Chunk) → last (pending_of n s.pending) ≡ some d → length s.flight.entries < room.flight = λ d q. let z = in_ring n s.pending d q in g.terminator_room n (g.partly z.0 n z.1 f) in
-          ap₂ (λ (a : Sender) (k : ℕ). when c.abandoned then same (Abandoned.Message c.message.stream 0) s else record { after = a; says = Abandoned.Message c.message.stream k })
+          ap₂ (λ (a : Sender) (k : ℕ). when c.abandoned then same (abandoned_message c.message.stream 0) s else record { after = a; says = abandoned_message c.message.stream k })
           (lean_abandoned room s n i near run left) (lean_held room s n i near run left)
 
 -- ---- what the code gives up: from `s` to `x` the run of the message's entries around `i` is marked, from `x` to `y` its pending chunks go, and from `y` to `z` a
@@ -102,10 +99,10 @@ module _ (room : Room) (n i : ℕ) (s : Sender) {x y : Sender} (v : x ≡ with_f
   unfolding leanly_abandoned
   gives o q e = e ∙ ap (λ (p : Option Chunk). left (closed_by room.flight p marked)) (sym q ∙ runs_same)
 
-  pub gives_none : found (last (runs n x.pending)) ≡ Found.Nothing → y ≡ leanly_abandoned room n i s
+  pub gives_none : found (last (runs n x.pending)) ≡ None → y ≡ leanly_abandoned room n i s
   gives_none q = gives none (found_none (last (runs n x.pending)) q) removed
 
-  pub gives_one : (c : Chunk) → found (last (runs n x.pending)) ≡ Found.One c → {d : Chunk} {k : ℕ} {z : Sender} → d ≡ terminator c → k ≡ room.flight → z ≡ with_flight (filed k d y.flight) y
+  pub gives_one : (c : Chunk) → found (last (runs n x.pending)) ≡ Some c → {d : Chunk} {k : ℕ} {z : Sender} → d ≡ terminator c → k ≡ room.flight → z ≡ with_flight (filed k d y.flight) y
       → z ≡ leanly_abandoned room n i s
   gives_one c q {d} {k} e h f =
       gives (some c) (found_some (last (runs n x.pending)) c q)
@@ -123,22 +120,22 @@ module _ (room : Room) (t : ℕ) (s : Sender) where
   unfolding lean_abandon
   at_entry o e q = q ∙ sym (ap (λ (y : Option Chunk). leanly_abandoning y room (place t s.flight) s) e)
 
-  pub abandon_none : found (in_flight t s.flight) ≡ Found.Nothing → same Abandoned.Nothing s ≡ lean_abandon room t s
+  pub abandon_none : found (in_flight t s.flight) ≡ None → same None s ≡ lean_abandon room t s
   abandon_none e = at_entry none (found_none (in_flight t s.flight) e) refl
 
-  module _ (c : Chunk) (e : found (in_flight t s.flight) ≡ Found.One c) where
+  module _ (c : Chunk) (e : found (in_flight t s.flight) ≡ Some c) where
     abbrev gives_up : (near : ℕ) → Out Abandoned
-    gives_up i = record { after = leanly_abandoned room c.message.number i s; says = Abandoned.Message c.message.stream (leanly_held c.message.number i s) }
+    gives_up i = record { after = leanly_abandoned room c.message.number i s; says = abandoned_message c.message.stream (leanly_held c.message.number i s) }
 
     abbrev picks : Bool → Out Abandoned
-    picks b = when b then same (Abandoned.Message c.message.stream 0) s else gives_up (place t s.flight)
+    picks b = when b then same (abandoned_message c.message.stream 0) s else gives_up (place t s.flight)
 
-    pub abandon_again : c.abandoned ≡ true → same (Abandoned.Message c.message.stream 0) s ≡ lean_abandon room t s
+    pub abandon_again : c.abandoned ≡ true → same (abandoned_message c.message.stream 0) s ≡ lean_abandon room t s
     abandon_again q = at_entry (some c) (found_some (in_flight t s.flight) c e) (sym (ap picks q))
 
     -- `i` is the entry's place
     pub abandon_one : c.abandoned ≡ false → {i : ℕ} → i ≡ place t s.flight → {after : Sender} {n : ℕ} → after ≡ leanly_abandoned room c.message.number i s → n ≡ leanly_held c.message.number i s
-        → record { after = after; says = Abandoned.Message c.message.stream n } ≡ lean_abandon room t s
+        → record { after = after; says = abandoned_message c.message.stream n } ≡ lean_abandon room t s
     abandon_one q p v w =
-        ap₂ (λ (a : Sender) (k : ℕ). record { after = a; says = Abandoned.Message c.message.stream k }) v w ∙ ap gives_up p
+        ap₂ (λ (a : Sender) (k : ℕ). record { after = a; says = abandoned_message c.message.stream k }) v w ∙ ap gives_up p
         ∙ at_entry (some c) (found_some (in_flight t s.flight) c e) (sym (ap picks q))

@@ -1,9 +1,8 @@
 -- An abandonment as the code makes it, of any state at all: the run of a message's entries around a place and its leading run in each ring go for
 -- all of its chunks, and its terminator is filed where there is room. In a `Good` state it is the model's call.
-use Rattle.std.specs.Prelude.{◌≡◌, List, ℕ, ◌+◌}
+use Rattle.std.specs.Prelude.{◌≡◌, List, ℕ, ◌+◌, None}
 use Rattle.std.proofs.Math.Option.{Option, none, some}
 use Rattle.limits.specs.Limits.{Room}
-use Rattle.model.specs.declared.Abandoned.{Abandoned}
 use Rattle.model.specs.declared.Chunk.{Chunk}
 use Rattle.model.specs.declared.Stream.{Stream}
 use Rattle.model.specs.Lists.{when◌then◌else◌, last}
@@ -14,6 +13,7 @@ use Rattle.payload_queue.specs.OneRun.{given_up_near, held_near}
 use Rattle.pending_queue.specs.Runs.{runs, without_runs}
 use Rattle.outbound_queue.specs.declared.OutboundQueue.{OutboundQueue}
 use Rattle.outbound_queue.specs.Outbound.{ring_room, sender_of, Counted}
+use Rattle.model.specs.Answers.{Abandoned, abandoned_message}
 
 -- behind the removed chunks a terminator, where there is room
 abbrev pub closed_by : (room : ℕ) → (lastRemoved : Option Chunk) → Flight → Flight
@@ -41,11 +41,11 @@ GivesUp n i q ws q' ws' held =
     × (Counted q ws → Counted q' ws')
 
 abbrev pub leanly_abandoning : Option Chunk → Room → (near : ℕ) → Sender → Out Abandoned
-leanly_abandoning none room i s = same Abandoned.Nothing s
+leanly_abandoning none room i s = same None s
 leanly_abandoning (some c) room i s =
     let x = c.message in
-    when c.abandoned then same (Abandoned.Message x.stream 0) s else
-    record { after = leanly_abandoned room x.number i s; says = Abandoned.Message x.stream (leanly_held x.number i s) }
+    when c.abandoned then same (abandoned_message x.stream 0) s else
+    record { after = leanly_abandoned room x.number i s; says = abandoned_message x.stream (leanly_held x.number i s) }
 
 unfoldable pub lean_abandon : Room → (tsn : ℕ) → Sender → Out Abandoned
 lean_abandon room t s = leanly_abandoning (in_flight t s.flight) room (place t s.flight) s

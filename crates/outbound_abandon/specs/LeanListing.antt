@@ -1,30 +1,31 @@
 -- The list of what has expired in flight as the code makes it, of any state at all: the message under way stands for those that are still
 -- pending, and before the bound of the deadlines nothing is looked for. In a `Good` state whose numbers are kept it is the model's.
-use Rattle.std.specs.Prelude.{◌≡◌, List, ◌++◌, ℕ, length, drop, ltb}
+use Rattle.std.specs.Prelude.{◌≡◌, List, ◌++◌, ℕ, length, drop, ltb, Ok, Err, Some, None}
 use Rattle.std.proofs.Math.Option.{Option, none, some}
 use Rattle.limits.specs.Limits.{Room, clock_max}
-use Rattle.limits.specs.Refusals.{done, beyond_limit}
-use Rattle.model.specs.declared.Listed.{Listed}
+use Rattle.limits.specs.Refusals.{done}
 use Rattle.model.specs.declared.Stream.{Stream}
 use Rattle.model.specs.Lists.{when◌then◌else◌}
 use Rattle.model.specs.State.{Sender}
 use Rattle.model.specs.Told.{told_listed}
-use Rattle.model.specs.Rings.{Listing, tsns_are, refused, listing, expired_inflight}
+use Rattle.model.specs.Rings.{Listing, listing, expired_inflight}
 use Rattle.demands.specs.Words.{number_under_way}
-use Rattle.payload_queue.specs.declared.Pending.{Pending as Awaited}
 use Rattle.payload_queue.specs.Queue.{sought_tsns}
 use Rattle.outbound_queue.specs.declared.OutboundQueue.{OutboundQueue}
 use Rattle.outbound_queue.specs.Outbound.{sender_of, Counted, Good}
 use Rattle.outbound_queue.specs.Calls.{Becomes}
+use Rattle.limits.specs.declared.Refusal.TheVariants.{BeyondLimit}
+use Rattle.model.specs.Answers.{Listed}
+use Rattle.payload_queue.specs.Queue.{Pending as Awaited}
 
 -- the message that is named as still pending
 abbrev pub named : Option ℕ → Awaited
-named none = Awaited.Nothing
-named (some n) = Awaited.Message n
+named none = None
+named (some n) = Some n
 
 unfoldable pub lean_list : (now due room : ℕ) → Sender → Listing
 lean_list now due n s =
-    when ltb clock_max now then refused beyond_limit else listing n (sought_tsns due now (named (number_under_way s.pending)) s.flight)
+    when ltb clock_max now then Err BeyondLimit else listing n (sought_tsns due now (named (number_under_way s.pending)) s.flight)
 
 -- a listing as the call gives it: its answer, and the lent list, of which the cells behind the TSNs stay
 pub record Lent : Type 0 where
@@ -32,8 +33,8 @@ pub record Lent : Type 0 where
   pub list : List ℕ
 
 abbrev pub listed_in : (out : List ℕ) → Listing → Lent
-listed_in out (tsns_are l) = record { answer = Listed.Count (length l); list = l ++ drop (length l) out }
-listed_in out (refused n) = record { answer = Listed.Refused n; list = out }
+listed_in out (Ok l) = record { answer = Ok (length l); list = l ++ drop (length l) out }
+listed_in out (Err n) = record { answer = Err n; list = out }
 
 -- of any state what the code lists, and of those that calls reach, where the numbers are kept (`kept`), the model's list
 abbrev pub DoesKept : {A : Type 0} → (kept : Type 0) → Room → Sender → (got lean said : A) → Type 0

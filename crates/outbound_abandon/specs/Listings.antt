@@ -1,27 +1,19 @@
 -- The list of expired TSNs, as the model's: the message that is named is the one under way.
-use Rattle.std.specs.Prelude.{◌≡◌, refl, ◌≢◌, Bool, true, false, ◌||◌, ℕ, zero, suc, ◌≤◌, ◌<◌, length, get_or, drop, ltb, eqb}
+use Rattle.std.specs.Prelude.{◌≡◌, refl, ◌≢◌, Bool, true, false, ◌||◌, ℕ, zero, suc, ◌≤◌, ◌<◌, length, get_or, drop, ltb, eqb, Some, None, Ok, Err}
 use Rattle.std.proofs.Math.Path.{sym, ap, ap₂}
 use Rattle.std.proofs.Common.{◌∙◌, arith, lt-ltb, le-ltb, ltb-true, eq-eqb, eqb-true}
 use Rattle.std.proofs.Math.Option.{Option, none, some}
 use mathlib.Core.List.{List, [], ◌∷◌, ◌++◌}
 use Rattle.limits.specs.Limits.{Room, clock_max}
-use Rattle.limits.specs.Refusals.{beyond_limit, list_short}
 use Rattle.model.specs.declared.Chunk.{Chunk}
-use Rattle.model.specs.declared.Found.{Found}
-use Rattle.model.specs.declared.Lane.{Lane}
-use Rattle.model.specs.declared.Lane.TheVariants.{Unordered, Ordered}
-use Rattle.model.specs.declared.Listed.{Listed}
-use Rattle.model.specs.declared.UnderWay.{UnderWay}
-use Rattle.model.specs.declared.UnderWay.TheVariants.{Idle, Sending}
+use Rattle.model.specs.State.{Lane, Unordered, Ordered, UnderWay, Idle, Sending, Sender, Flight, lane_of, is_of}
 use Rattle.model.specs.Lists.{when◌then◌else◌, keep, some_of}
-use Rattle.model.specs.State.{Sender, Flight, lane_of, is_of}
-use Rattle.model.specs.Rings.{Listing, tsns_are, refused, listing, expired_inflight}
+use Rattle.model.specs.Rings.{Listing, listing, expired_inflight}
 use Rattle.model.specs.Flight.{found}
 use Rattle.demands.specs.Words.{number_under_way, number_of_head}
 use Rattle.demands.specs.States.{Has}
 use Rattle.rows.specs.Walks.{some_in}
 use Rattle.chunk_slot.specs.Chunks.{blank_chunk}
-use Rattle.payload_queue.specs.declared.Pending.{Pending}
 use Rattle.payload_queue.specs.Queue.{least_due, is_awaited, overdue_tsns, sought_tsns, listed, written}
 use Rattle.payload_queue.specs.Dues.{none_due}
 use Rattle.payload_queue.specs.Listing.{fits, sought_none, lists_as}
@@ -30,21 +22,24 @@ use Rattle.payload_queue.specs.Model.{Names, expired_is}
 use Rattle.pending_queue.specs.Queue.{under_way_of}
 use Rattle.outbound_queue.specs.Outbound.{Good}
 use Rattle.outbound_abandon.specs.LeanListing.{named, lean_list, Lent, listed_in, DoesKept}
+use Rattle.limits.specs.declared.Refusal.TheVariants.{BeyondLimit, ListShort}
+use Rattle.model.specs.Answers.{Listed}
+use Rattle.payload_queue.specs.Queue.{Pending}
 
 -- ---- the message that is named, as code finds it
 
-pub named_none : (w : UnderWay) (h : Option Chunk) → found h ≡ Found.Nothing → Pending.Nothing ≡ named (number_of_head w h)
+pub named_none : (w : UnderWay) (h : Option Chunk) → found h ≡ None → None ≡ named (number_of_head w h)
 named_none Idle h e = refl
 named_none (Sending l) none e = refl
 named_none (Sending l) (some c) e = let z : ◌≡◌ {A = ℕ} 0 1 = cc in absurd (omega arith)
 
-named_one : (l : Lane) (h : Option Chunk) (c : Chunk) → found h ≡ Found.One c → Pending.Message c.message.number ≡ named (number_of_head (Sending l) h)
+named_one : (l : Lane) (h : Option Chunk) (c : Chunk) → found h ≡ Some c → Some c.message.number ≡ named (number_of_head (Sending l) h)
 named_one l h c e = sym (ap (λ (o : Option Chunk). named (number_of_head (Sending l) o)) (found_some h c e))
 
-pub named_idle : {b : Bool} (u : Bool) (h : Option Chunk) → b ≡ false → Pending.Nothing ≡ named (number_of_head (under_way_of b u) h)
+pub named_idle : {b : Bool} (u : Bool) (h : Option Chunk) → b ≡ false → None ≡ named (number_of_head (under_way_of b u) h)
 named_idle u h e = sym (ap (λ (t : Bool). named (number_of_head (under_way_of t u) h)) e)
 
-pub named_head : {b : Bool} (u : Bool) (h : Option Chunk) (c : Chunk) → b ≡ true → found h ≡ Found.One c → Pending.Message c.message.number ≡ named (number_of_head (under_way_of b u) h)
+pub named_head : {b : Bool} (u : Bool) (h : Option Chunk) (c : Chunk) → b ≡ true → found h ≡ Some c → Some c.message.number ≡ named (number_of_head (under_way_of b u) h)
 named_head u h c e q = named_one (lane_of u) h c q ∙ sym (ap (λ (t : Bool). named (number_of_head (under_way_of t u) h)) e)
 
 -- ---- it is the one that is in flight and pending
@@ -124,7 +119,7 @@ pub lean_list_lem : (now due n : ℕ) {room : Room} {s : Sender} → due ≤ lea
 unfolding lean_list expired_inflight
 lean_list_lem now due n {room} {s} h g =
     let w = named (number_under_way s.pending) in
-    ap (λ (l : List ℕ). when ltb clock_max now then refused beyond_limit else listing n l) (sought_is now due w s.flight h ∙ expired_is now w s.pending s.flight (names s g))
+    ap (λ (l : List ℕ). when ltb clock_max now then Err BeyondLimit else listing n l) (sought_is now due w s.flight h ∙ expired_is now w s.pending s.flight (names s g))
 
 -- ---- the ways out
 
@@ -132,15 +127,15 @@ lean_list_lem now due n {room} {s} h g =
 listing_is : (ts out : List ℕ) → record { answer = listed ts out; list = written ts out } ≡ listed_in out (listing (length out) ts)
 listing_is ts out = by (ltb (length out) (length ts))
   where
-    by : (b : Bool) → record { answer = when b then Listed.Refused list_short else Listed.Count (length ts); list = when b then out else ts ++ drop (length ts) out } ≡ listed_in out (when b then refused list_short else tsns_are ts)
+    by : (b : Bool) → record { answer = when b then Err ListShort else Ok (length ts); list = when b then out else ts ++ drop (length ts) out } ≡ listed_in out (when b then Err ListShort else Ok ts)
     by true = refl
     by false = refl
 
 module _ (now due : ℕ) (s : Sender) (out : List ℕ) where
   abbrev lists : Bool → Listing
-  lists b = when b then refused beyond_limit else listing (length out) (sought_tsns due now (named (number_under_way s.pending)) s.flight)
+  lists b = when b then Err BeyondLimit else listing (length out) (sought_tsns due now (named (number_under_way s.pending)) s.flight)
 
-  pub list_late : clock_max < now → record { answer = Listed.Refused beyond_limit; list = out } ≡ listed_in out (lean_list now due (length out) s)
+  pub list_late : clock_max < now → record { answer = Err BeyondLimit; list = out } ≡ listed_in out (lean_list now due (length out) s)
   unfolding lean_list
   list_late h = sym (ap (λ (b : Bool). listed_in out (lists b)) (lt-ltb clock_max now h))
 
@@ -154,7 +149,7 @@ module _ (now due : ℕ) (s : Sender) (out : List ℕ) where
       ∙ sym (ap (λ (b : Bool). listed_in out (lists b)) (le-ltb clock_max now h))
 
   -- before the bound
-  pub list_early : now ≤ clock_max → now < due → record { answer = Listed.Count 0; list = out } ≡ listed_in out (lean_list now due (length out) s)
+  pub list_early : now ≤ clock_max → now < due → record { answer = Ok 0; list = out } ≡ listed_in out (lean_list now due (length out) s)
   list_early h e =
       let w = named (number_under_way s.pending) in
       let p = lists_as out (sought_none due now w s.flight e) (fits [] out (omega arith)) in

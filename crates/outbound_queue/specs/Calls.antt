@@ -4,12 +4,10 @@ use Rattle.std.specs.Prelude.{◌≡◌, Bool, List, ◌++◌, map, ℕ, ◌+◌
 use Rattle.limits.specs.Limits.{Room}
 use Rattle.limits.specs.Told.{Told}
 use Rattle.model.specs.declared.Chunk.{Chunk}
-use Rattle.model.specs.declared.Found.{Found}
-use Rattle.model.specs.declared.Lane.TheVariants.{Ordered}
+use Rattle.model.specs.State.{Ordered, Sender, Pending, Flight, Out, with_pending, with_ring}
 use Rattle.model.specs.declared.Message.{Message}
 use Rattle.model.specs.declared.Stream.{Stream}
 use Rattle.model.specs.Lists.{last}
-use Rattle.model.specs.State.{Sender, Pending, Flight, Out, with_pending, with_ring}
 use Rattle.model.specs.Rings.{head, lowered, bytes}
 use Rattle.model.specs.Flight.{found}
 use Rattle.rows.specs.Spared.{Spares}
@@ -21,6 +19,7 @@ use Rattle.pending_queue.specs.Fronts.{popped}
 use Rattle.pending_queue.specs.Runs.{runs, without_runs}
 use Rattle.outbound_queue.specs.declared.OutboundQueue.{OutboundQueue}
 use Rattle.outbound_queue.specs.Outbound.{rings_in, ring_room, waiting, flying, sender_of, Counted, Does}
+use Rattle.model.specs.Answers.{Found}
 
 -- what is pending
 abbrev pub waiting_in : OutboundQueue → List ℕ → Pending

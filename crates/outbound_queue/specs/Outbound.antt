@@ -4,10 +4,9 @@ use Rattle.std.proofs.Common.{sym, ap, ap₂, subst, ◌∙◌, arith}
 use Rattle.std.proofs.Math.Option.{some}
 use Rattle.limits.specs.Limits.{Room}
 use Rattle.model.specs.declared.Chunk.{Chunk}
-use Rattle.model.specs.declared.Lane.{Lane}
+use Rattle.model.specs.State.{Lane, Sender, Pending, Flight, Numbers, fresh, with_streams, at, is_of}
 use Rattle.model.specs.declared.Stream.{Stream}
 use Rattle.model.specs.Lists.{keep}
-use Rattle.model.specs.State.{Sender, Pending, Flight, Numbers, fresh, with_streams, at, is_of}
 use Rattle.model.specs.Rings.{head}
 use Rattle.demands.specs.Words.{Each, number_under_way}
 use Rattle.demands.specs.States.{Kept, PendingChunk, Contiguous, Ascending, Has, drop_run}

@@ -3,21 +3,19 @@ use Rattle.std.specs.Prelude.{◌≡◌, refl, Bool, true, false, ◌&&◌, List
 use Rattle.std.proofs.Common.{sym, ap, subst, ◌∙◌, arith, eqb-true, eq-eqb, ne_eqb}
 use Rattle.std.proofs.lemmas.Bool.{lt-leb}
 use Rattle.model.specs.declared.Chunk.{Chunk}
-use Rattle.model.specs.declared.Lane.{Lane}
-use Rattle.model.specs.declared.Lane.TheVariants.{Unordered, Ordered}
+use Rattle.model.specs.State.{Lane, Unordered, Ordered, Sender, Pending, at, lane_of, in_rings, with_pending, with_numbers, with_ring}
 use Rattle.model.specs.declared.Message.{Message}
 use Rattle.model.specs.declared.Stream.{Stream}
 use Rattle.model.specs.Lists.{when◌then◌else◌}
-use Rattle.model.specs.State.{Sender, Pending, at, lane_of, in_rings, with_pending, with_numbers, with_ring}
 use Rattle.model.specs.Rings.{bytes, started}
 use Rattle.demands.specs.Words.{Each}
 use Rattle.rows.specs.Walks.{all}
+use Rattle.cells.specs.Slots.{room_of}
 use Rattle.ring.specs.Held.{held}
-use Rattle.pending_queue.specs.declared.cutting.Added.{Added}
 use Rattle.pending_queue.specs.declared.PendingQueue.{PendingQueue}
 use Rattle.pending_queue.specs.Queue.{both, counted_more}
 use Rattle.pending_queue.specs.Fragments.{Adds, with_fragments, added, fits}
-use Rattle.pending_queue.specs.Adding.{with_added}
+use Rattle.pending_queue.specs.Adding.{Added, with_added, added_in, ring_of, Joins as Joined}
 use Rattle.pending_queue.specs.Lifetimes.{unseen, started_end, started_bytes}
 use Rattle.outbound_queue.specs.declared.OutboundQueue.{OutboundQueue}
 use Rattle.outbound_queue.specs.Outbound.{Rings, rings_in, ring_room, remade, waiting, sender_in, sender_of, CountedIn, sender_by, counted_by_lem}
@@ -131,3 +129,11 @@ module _ (q : OutboundQueue) (x : Message) (m off l : ℕ) (ws vs w : List ℕ) 
     (λ ts. sender_by ts (anew p) vs back ∙ ap (λ (y : Pending). with_pending y (sender_of ts q ws)) (joined g.0), λ k. counted_by_lem (anew p) vs back (subst (λ (y : PendingQueue). CountedIn (anew y) (relent lane w (rings_in ws))) (sym f) (summed lane g.2 k))),
     g.1 ∙ ap (λ (k : ℕ). fits k m off l (at (lane_of lane) waited)) same ∙ ap (λ (t : Bool). fits (ring_room ws) m off l (at (lane_of t) waited)) (sym e),
   )
+
+-- by what the ring's queue promises: `v` are the words of the ring before
+module _ (q : OutboundQueue) (x : Message) (m off l : ℕ) (ws vs v w : List ℕ) (same : room_of v ≡ ring_room ws) (lane : Bool) (lent : held (ring_of lane q.pending) v ≡ at (lane_of lane) (waiting_in q ws)) (back : rings_in vs ≡ relent lane w (rings_in ws)) (e : x.unordered ≡ lane) where
+  pub joins_told : {p : PendingQueue} {done : Bool} → Joined x m off l q.pending v p w done → Joins x m off l q ws (remade p q.inflight q) vs done
+  joins_told {p} {done} j =
+      let d = added_in x m l p done in
+      let z = subst (λ (t : Bool). (p ≡ with_added t d q.pending) × Adds (room_of v) x m off l (held (ring_of t q.pending) v) (held d.ring w) d.bytes d.done) e j in
+      joins q x m off l ws vs w same d lane back e z.0 (subst (λ (k : List Chunk). Adds (room_of v) x m off l k (held d.ring w) d.bytes d.done) lent z.1)

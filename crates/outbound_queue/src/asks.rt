@@ -10,97 +10,96 @@ ghost use Rattle.pending_queue.specs.Queue.{bytes_in};
 ghost use Rattle.outbound_queue.specs.Calls.{waiting_in, flying_in, chunks_of, all_chunks, count_of};
 
 use super::OutboundQueue;
-use model::{Earliest, Found};
+use model::{Chunk, Stream};
 
-// The number of the next message.
-pub fn next_message_id(q: OutboundQueue) -> u64
-    ensures { (ts : List Stream) (ws : List ℕ) → result ≡ (sender_of ts q ws).numbers.next }
-{
-    q.next_message_id
-}
-
-// The chunk that is sent next.
-pub fn peek_pending(q: OutboundQueue, cells: &[u64]) -> Found
-    ensures { result ≡ found (head (waiting_in q cells.now)) }
-{
-    let k = cells.len() / 24 * 8;
-    pending_queue::peek(q.pending, &cells[0..k], &cells[k..k + k])
-}
-
-pub fn get(q: OutboundQueue, cells: &[u64], tsn: u32) -> Found
-    ensures { result ≡ found (in_flight tsn (flying_in q cells.now)) }
-{
-    let k = cells.len() / 24 * 8;
-    payload_queue::get(q.inflight, &cells[k + k..k + k + k], tsn)
-}
-
-// No for a TSN that is not in flight.
-pub fn is_abandoned(q: OutboundQueue, cells: &[u64], tsn: u32) -> bool
-    ensures { result ≡ is_abandoned (in_flight tsn (flying_in q cells.now)) }
-{
-    let entry = get(q, cells, tsn);
-    let Found::One(chunk) = entry else {
-        return false;
-    };
-    chunk.abandoned
-}
-
-pub fn pending_contains_stream(q: OutboundQueue, cells: &[u64], stream: u16) -> bool
-    ensures { result ≡ has_stream stream (chunks_of (waiting_in q cells.now)) }
-{
-    let k = cells.len() / 24 * 8;
-    pending_queue::asks::contains_stream(q.pending, &cells[0..k], &cells[k..k + k], stream)
-}
-
-pub fn contains_stream(q: OutboundQueue, cells: &[u64], stream: u16) -> bool
-    ensures { result ≡ has_stream stream (all_chunks (waiting_in q cells.now) (flying_in q cells.now)) }
-{
-    if pending_contains_stream(q, cells, stream) {
-        return true;
+impl OutboundQueue {
+    // The number of the next message.
+    pub fn next_message_id(&self) -> u64
+        ensures { (ts : List Stream) (ws : List ℕ) → result ≡ (sender_of ts self.now ws).numbers.next }
+    {
+        self.next_message_id
     }
-    let k = cells.len() / 24 * 8;
-    payload_queue::asks::contains_stream(q.inflight, &cells[k + k..k + k + k], stream)
-}
 
-pub fn pending_len(q: OutboundQueue, cells: &[u64]) -> usize
-    ensures { result ≡ count_of (waiting_in q cells.now) }
-{
-    let k = cells.len() / 24 * 8;
-    pending_queue::asks::len(q.pending, &cells[0..k], &cells[k..k + k])
-}
+    // The chunk that is sent next.
+    pub fn peek_pending(&self, cells: &[u64]) -> Option<Chunk>
+        ensures { result ≡ found (head (waiting_in self.now cells.now)) }
+    {
+        let k = cells.len() / 24 * 8;
+        self.pending.peek(&cells[0..k], &cells[k..k + k])
+    }
 
-// In constant time, as the bytes in flight are.
-pub fn pending_bytes(q: OutboundQueue) -> u64
-    ensures { (result ≡ q.pending.bytes) × ((ws : List ℕ) → Counted q ws → result ≡ bytes_in (waiting_in q ws)) }
-{
-    pending_queue::asks::bytes(q.pending)
-}
+    pub fn get(&self, cells: &[u64], tsn: u32) -> Option<Chunk>
+        ensures { result ≡ found (in_flight tsn (flying_in self.now cells.now)) }
+    {
+        let k = cells.len() / 24 * 8;
+        self.inflight.get(&cells[k + k..k + k + k], tsn)
+    }
 
-pub fn inflight_len(q: OutboundQueue, cells: &[u64]) -> usize
-    ensures { result ≡ length (flying_in q cells.now).entries }
-{
-    let k = cells.len() / 24 * 8;
-    payload_queue::asks::len(q.inflight, &cells[k + k..k + k + k])
-}
+    // No for a TSN that is not in flight.
+    pub fn is_abandoned(&self, cells: &[u64], tsn: u32) -> bool
+        ensures { result ≡ is_abandoned (in_flight tsn (flying_in self.now cells.now)) }
+    {
+        self.get(cells, tsn).is_some_and(|chunk| chunk.abandoned)
+    }
 
-pub fn inflight_bytes(q: OutboundQueue) -> u64
-    ensures { (result ≡ q.inflight.bytes) × ((ws : List ℕ) → Counted q ws → result ≡ bytes (flying_in q ws).entries) }
-{
-    payload_queue::asks::bytes(q.inflight)
-}
+    pub fn pending_contains_stream(&self, cells: &[u64], stream: u16) -> bool
+        ensures { result ≡ has_stream stream (chunks_of (waiting_in self.now cells.now)) }
+    {
+        let k = cells.len() / 24 * 8;
+        self.pending
+            .contains_stream(&cells[0..k], &cells[k..k + k], stream)
+    }
 
-// The TSN of the next chunk that is sent.
-pub fn next_tsn(q: OutboundQueue, cells: &[u64]) -> u32
-    ensures { (ts : List Stream) → result ≡ next_tsn (sender_of ts q cells.now) }
-{
-    let k = cells.len() / 24 * 8;
-    payload_queue::asks::next_tsn(q.inflight, &cells[k + k..k + k + k])
-}
+    pub fn contains_stream(&self, cells: &[u64], stream: u16) -> bool
+        ensures { result ≡ has_stream stream (all_chunks (waiting_in self.now cells.now) (flying_in self.now cells.now)) }
+    {
+        let k = cells.len() / 24 * 8;
+        self.pending_contains_stream(cells, stream)
+            || self
+                .inflight
+                .contains_stream(&cells[k + k..k + k + k], stream)
+    }
 
-// The oldest TSN that is neither acknowledged nor abandoned.
-pub fn earliest_outstanding_tsn(q: OutboundQueue, cells: &[u64]) -> Earliest
-    ensures { (ts : List Stream) → result ≡ earliest_outstanding (sender_of ts q cells.now) }
-{
-    let k = cells.len() / 24 * 8;
-    payload_queue::asks::earliest_outstanding(q.inflight, &cells[k + k..k + k + k])
+    pub fn pending_len(&self, cells: &[u64]) -> usize
+        ensures { result ≡ count_of (waiting_in self.now cells.now) }
+    {
+        let k = cells.len() / 24 * 8;
+        self.pending.len(&cells[0..k], &cells[k..k + k])
+    }
+
+    // In constant time, as the bytes in flight are.
+    pub fn pending_bytes(&self) -> u64
+        ensures { (result ≡ self.now.pending.bytes) × ((ws : List ℕ) → Counted self.now ws → result ≡ bytes_in (waiting_in self.now ws)) }
+    {
+        self.pending.bytes()
+    }
+
+    pub fn inflight_len(&self, cells: &[u64]) -> usize
+        ensures { result ≡ length (flying_in self.now cells.now).entries }
+    {
+        let k = cells.len() / 24 * 8;
+        self.inflight.len(&cells[k + k..k + k + k])
+    }
+
+    pub fn inflight_bytes(&self) -> u64
+        ensures { (result ≡ self.now.inflight.bytes) × ((ws : List ℕ) → Counted self.now ws → result ≡ bytes (flying_in self.now ws).entries) }
+    {
+        self.inflight.bytes()
+    }
+
+    // The TSN of the next chunk that is sent.
+    pub fn next_tsn(&self, cells: &[u64]) -> u32
+        ensures { (ts : List Stream) → result ≡ next_tsn (sender_of ts self.now cells.now) }
+    {
+        let k = cells.len() / 24 * 8;
+        self.inflight.next_tsn(&cells[k + k..k + k + k])
+    }
+
+    // The oldest TSN that is neither acknowledged nor abandoned.
+    pub fn earliest_outstanding_tsn(&self, cells: &[u64]) -> Option<u32>
+        ensures { (ts : List Stream) → result ≡ earliest_outstanding (sender_of ts self.now cells.now) }
+    {
+        let k = cells.len() / 24 * 8;
+        self.inflight.earliest_outstanding(&cells[k + k..k + k + k])
+    }
 }

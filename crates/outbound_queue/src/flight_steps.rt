@@ -7,57 +7,30 @@ ghost use Rattle.outbound_queue.specs.Calls.{flying_in, Files, Frees};
 use super::OutboundQueue;
 use chunk_slot::Words;
 
-// The bytes that the message held in flight.
-#[derive(Clone, Copy)]
-pub struct Freed {
-    pub queue: OutboundQueue,
-    pub bytes: u64,
-}
-
-// Whether the flight has room for no more than a terminator.
-pub fn is_full(q: OutboundQueue, cells: &[u64]) -> bool
-    ensures { result ≡ leb (ring_room cells.now) (suc (length (flying_in q cells.now).entries)) }
-{
-    let k = cells.len() / 24 * 8;
-    let room = cells::room(&cells[k + k..k + k + k]);
-    room <= payload_queue::asks::len(q.inflight, &cells[k + k..k + k + k]) + 1
-}
-
-// The chunk of the words goes behind the entries, where there is room.
-pub fn file(q: OutboundQueue, cells: &mut [u64], words: Words) -> OutboundQueue
-    ensures { Files (chunk_for words) q cells.old result cells.new }
-{
-    let k = cells.len() / 24 * 8;
-    let longer = payload_queue::push(q.inflight, &mut cells[k + k..k + k + k], words);
-    let pending = q.pending;
-    OutboundQueue {
-        pending: pending,
-        inflight: longer,
-        next_message_id: q.next_message_id,
-        next_unstarted_message_id: q.next_unstarted_message_id,
+impl OutboundQueue {
+    // Whether the flight has room for no more than a terminator.
+    pub fn is_full(&self, cells: &[u64]) -> bool
+        ensures { result ≡ leb (ring_room cells.now) (suc (length (flying_in self.now cells.now).entries)) }
+    {
+        let k = cells.len() / 24 * 8;
+        let room = cells::room(&cells[k + k..k + k + k]);
+        room <= self.inflight.len(&cells[k + k..k + k + k]) + 1
     }
-}
 
-// Gives up the run of a message's entries around a place of the flight.
-pub fn give_up_entries(q: OutboundQueue, cells: &mut [u64], near: usize, number: u64) -> Freed
-    ensures { Frees number near q cells.old result.queue cells.new result.bytes }
-{
-    let k = cells.len() / 24 * 8;
-    let freed = payload_queue::marks::abandon_message(
-        q.inflight,
-        &mut cells[k + k..k + k + k],
-        near,
-        number,
-    );
-    let pending = q.pending;
-    let inflight = freed.queue;
-    Freed {
-        queue: OutboundQueue {
-            pending: pending,
-            inflight: inflight,
-            next_message_id: q.next_message_id,
-            next_unstarted_message_id: q.next_unstarted_message_id,
-        },
-        bytes: freed.bytes,
+    // The chunk of the words goes behind the entries, where there is room.
+    pub fn file(&mut self, cells: &mut [u64], words: Words)
+        ensures { Files (chunk_for words) self.old cells.old self.new cells.new }
+    {
+        let k = cells.len() / 24 * 8;
+        self.inflight.push(&mut cells[k + k..k + k + k], words);
+    }
+
+    // Gives up the run of a message's entries around a place of the flight. The answer is the bytes that the message held there.
+    pub fn give_up_entries(&mut self, cells: &mut [u64], near: usize, number: u64) -> u64
+        ensures { Frees number near self.old cells.old self.new cells.new result }
+    {
+        let k = cells.len() / 24 * 8;
+        self.inflight
+            .abandon_message(&mut cells[k + k..k + k + k], near, number)
     }
 }

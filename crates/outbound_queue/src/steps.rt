@@ -8,157 +8,72 @@ ghost use Rattle.outbound_queue.specs.Steps.{ends_started};
 ghost use Rattle.outbound_queue.specs.Calls.{Becomes, Takes, Removes, gap_closed, Joins};
 
 use super::OutboundQueue;
-use chunk_slot::FoundWords;
-use model::{Found, Message};
+use chunk_slot::Words;
+use model::Message;
+use pending_queue::removal::Removed;
 
-#[derive(Clone, Copy)]
-pub struct Taken {
-    pub queue: OutboundQueue,
-    pub front: FoundWords,
-}
-
-// `bytes` is what the removed chunks held, and `last` the last of them.
-#[derive(Clone, Copy)]
-pub struct Removed {
-    pub queue: OutboundQueue,
-    pub bytes: u64,
-    pub last: Found,
-}
-
-// Whether there was room for the fragments.
-#[derive(Clone, Copy)]
-pub struct Joined {
-    pub queue: OutboundQueue,
-    pub done: bool,
-}
-
-// Starts the lifetimes of the messages not yet seen, at the ends of the rings; all are seen then. Where every message was seen, no ring is
-// looked at. A clock beyond its limit is taken as the limit.
-pub fn start_rings(q: OutboundQueue, cells: &mut [u64], clock: u64) -> OutboundQueue
-    ensures { Becomes (ends_started (min clock clock_max)) q cells.old result cells.new }
-{
-    if q.next_unstarted_message_id == q.next_message_id {
-        return q;
+impl OutboundQueue {
+    // Starts the lifetimes of the messages not yet seen, at the ends of the rings; all are seen then. Where every message was seen, no ring is
+    // looked at. A clock beyond its limit is taken as the limit.
+    pub fn start_rings(&mut self, cells: &mut [u64], clock: u64)
+        ensures { Becomes (ends_started (min clock clock_max)) self.old cells.old self.new cells.new }
+    {
+        if self.next_unstarted_message_id == self.next_message_id {
+            return;
+        }
+        let k = cells.len() / 24 * 8;
+        let first = self.next_unstarted_message_id;
+        let pending = self.pending;
+        pending_queue::start_timed_messages(&pending.unordered, &mut cells[0..k], clock, first);
+        pending_queue::start_timed_messages(&pending.ordered, &mut cells[k..k + k], clock, first);
+        self.next_unstarted_message_id = self.next_message_id;
     }
-    let k = cells.len() / 24 * 8;
-    let pending = q.pending;
-    let inflight = q.inflight;
-    let first = q.next_unstarted_message_id;
-    pending_queue::start_timed_messages(pending.unordered, &mut cells[0..k], clock, first);
-    pending_queue::start_timed_messages(pending.ordered, &mut cells[k..k + k], clock, first);
-    OutboundQueue {
-        pending: pending,
-        inflight: inflight,
-        next_message_id: q.next_message_id,
-        next_unstarted_message_id: q.next_message_id,
-    }
-}
 
-// Takes the chunk that is sent next, as its words.
-pub fn take_head(q: OutboundQueue, cells: &[u64]) -> Taken
-    ensures { Takes q cells.now result.queue (found_for result.front) }
-{
-    let k = cells.len() / 24 * 8;
-    let rest = pending_queue::pop(q.pending, &cells[0..k], &cells[k..k + k]);
-    let pending = rest.queue;
-    let inflight = q.inflight;
-    let front = rest.front;
-    Taken {
-        queue: OutboundQueue {
-            pending: pending,
-            inflight: inflight,
-            next_message_id: q.next_message_id,
-            next_unstarted_message_id: q.next_unstarted_message_id,
-        },
-        front: front,
+    // Takes the chunk that is sent next, as its words.
+    pub fn take_head(&mut self, cells: &[u64]) -> Option<Words>
+        ensures { Takes self.old cells.now self.new (found_for result) }
+    {
+        let k = cells.len() / 24 * 8;
+        self.pending.pop(&cells[0..k], &cells[k..k + k])
     }
-}
 
-// Removes the leading run of a message from each ring.
-pub fn remove_pending(q: OutboundQueue, cells: &[u64], number: u64) -> Removed
-    ensures { Removes number q cells.now result.queue result.bytes result.last }
-{
-    let k = cells.len() / 24 * 8;
-    let rest = pending_queue::removal::remove_message(
-        q.pending,
-        &cells[0..k],
-        &cells[k..k + k],
-        number,
-    );
-    let pending = rest.queue;
-    let inflight = q.inflight;
-    let last = rest.last;
-    Removed {
-        queue: OutboundQueue {
-            pending: pending,
-            inflight: inflight,
-            next_message_id: q.next_message_id,
-            next_unstarted_message_id: q.next_unstarted_message_id,
-        },
-        bytes: rest.bytes,
-        last: last,
+    // Removes the leading run of a message from each ring.
+    pub fn remove_pending(&mut self, cells: &[u64], number: u64) -> Removed
+        ensures { Removes number self.old cells.now self.new result.bytes result.last }
+    {
+        let k = cells.len() / 24 * 8;
+        self.pending
+            .remove_message(&cells[0..k], &cells[k..k + k], number)
     }
-}
 
-// Closes the gap in a stream's SSNs behind an ordered message that leaves wholly unsent. The queue's numbers stay.
-pub fn lower_ssns(q: OutboundQueue, cells: &mut [u64], stream: u16)
-    ensures { Becomes (gap_closed stream) q cells.old q cells.new }
-{
-    let k = cells.len() / 24 * 8;
-    pending_queue::removal::compact_ordered_ssns(q.pending, &mut cells[k..k + k], stream)
-}
-
-// A message's fragments join the back of its ring. Where there is no room for all of them, or the offset is beyond its limit, nothing
-// changes.
-pub fn add_fragments(
-    q: OutboundQueue,
-    cells: &mut [u64],
-    message: Message,
-    maximum: u16,
-    offset: u64,
-    length: u32,
-) -> Joined
-    ensures { Joins message maximum offset length q cells.old result.queue cells.new result.done }
-{
-    let k = cells.len() / 24 * 8;
-    let pending = q.pending;
-    let inflight = q.inflight;
-    if message.unordered {
-        let added = pending_queue::cutting::push_fragments(
-            pending.unordered,
-            &mut cells[0..k],
-            message,
-            maximum,
-            offset,
-            length,
-        );
-        let longer = pending_queue::with_fragments(pending, true, added);
-        return Joined {
-            queue: OutboundQueue {
-                pending: longer,
-                inflight: inflight,
-                next_message_id: q.next_message_id,
-                next_unstarted_message_id: q.next_unstarted_message_id,
-            },
-            done: added.done,
-        };
+    // Closes the gap in a stream's SSNs behind an ordered message that leaves wholly unsent. The queue's numbers stay.
+    pub fn lower_ssns(&self, cells: &mut [u64], stream: u16)
+        ensures { Becomes (gap_closed stream) self.now cells.old self.now cells.new }
+    {
+        let k = cells.len() / 24 * 8;
+        self.pending
+            .compact_ordered_ssns(&mut cells[k..k + k], stream)
     }
-    let added = pending_queue::cutting::push_fragments(
-        pending.ordered,
-        &mut cells[k..k + k],
-        message,
-        maximum,
-        offset,
-        length,
-    );
-    let longer = pending_queue::with_fragments(pending, false, added);
-    Joined {
-        queue: OutboundQueue {
-            pending: longer,
-            inflight: inflight,
-            next_message_id: q.next_message_id,
-            next_unstarted_message_id: q.next_unstarted_message_id,
-        },
-        done: added.done,
+
+    // A message's fragments join the back of its ring. Where there is no room for all of them, or the offset is beyond its limit, nothing
+    // changes, and the answer is no.
+    pub fn add_fragments(
+        &mut self,
+        cells: &mut [u64],
+        message: Message,
+        maximum: u16,
+        offset: u64,
+        length: u32,
+    ) -> bool
+        ensures { Joins message maximum offset length self.old cells.old self.new cells.new result }
+    {
+        let k = cells.len() / 24 * 8;
+        if message.unordered {
+            self.pending
+                .add_fragments(&mut cells[0..k], message, maximum, offset, length)
+        } else {
+            self.pending
+                .add_fragments(&mut cells[k..k + k], message, maximum, offset, length)
+        }
     }
 }

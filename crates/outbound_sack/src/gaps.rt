@@ -38,12 +38,8 @@ fn note(ends: &mut [u16], from: usize, block: Block)
 fn note_ends(part: &[u8], count: u16, from: usize, ends: &mut [u16])
     ensures { ends.new ≡ noted_all (from + 1) (blocks_from count 0 part.now) ends.old }
 {
-    let n = count as usize;
-    let mut i: usize = 0;
-    while i < n {
-        let block = wire::sack::block(part, i);
-        note(ends, from, block);
-        i += 1;
+    for i in 0..count as usize {
+        note(ends, from, wire::sack::block(part, i));
     }
 }
 
@@ -63,43 +59,21 @@ fn acknowledge_if(ring: Ring, cells: &mut [u64], i: usize, covered: bool) -> u32
     if !covered {
         return 0;
     }
-    ring::parts::acknowledge_nth(ring, cells, i)
-}
-
-fn larger(a: u16, b: u16) -> u16
-    ensures { result ≡ max a b }
-{
-    if a < b { b } else { a }
-}
-
-// How many of n entries a window has that begins at place `from`.
-fn entries_of(n: usize, from: usize, window: usize) -> usize
-    ensures { result ≡ min window (n - from) }
-{
-    if n <= from {
-        return 0;
-    }
-    if n - from < window {
-        return n - from;
-    }
-    window
+    ring.acknowledge_nth(cells, i)
 }
 
 // One walk over the entries of a window: `ends` are its furthest ends, and `top` is the furthest of the blocks that start before it.
 fn walk(ring: Ring, cells: &mut [u64], ends: &[u16], from: usize, top: u16) -> Walked
     ensures { WalksOver ends.now from top (held ring cells.old) (held ring cells.new) result.top result.bytes }
 {
-    let n = ring::count(ring, cells);
-    let stop = entries_of(n, from, ends.len());
+    let stop = ends.len().min(ring.count(cells).saturating_sub(from));
     let mut furthest = top;
     let mut sum: u64 = 0;
-    let mut i: usize = 0;
-    while i < stop {
-        furthest = larger(furthest, ends[i]);
+    for i in 0..stop {
+        furthest = furthest.max(ends[i]);
         let at = from + i;
         let held = acknowledge_if(ring, cells, at, at < furthest as usize);
         sum += held as u64;
-        i += 1;
     }
     Walked {
         top: furthest,
@@ -121,10 +95,11 @@ fn window(ring: Ring, cells: &mut [u64], part: &[u8], count: u16, from: usize, t
 pub fn acknowledge_blocks(ring: Ring, cells: &mut [u64], part: &[u8], count: u16) -> u64
     ensures { Acknowledges (blocks_from count 0 part.now) (held ring cells.old) (held ring cells.new) result }
 {
-    let n = ring::count(ring, cells);
+    let n = ring.count(cells);
     let mut top: u16 = 0;
     let mut sum: u64 = 0;
     let mut from: usize = 0;
+    // A window a turn: `step_by` would be no plainer, since each turn goes on from what the last one found.
     while from < n {
         let walked = window(ring, cells, part, count, from, top);
         top = walked.top;

@@ -1,19 +1,18 @@
 -- The ways out of the calls, over a variable flight.
-use Rattle.std.specs.Prelude.{◌≡◌, ℕ, zero, suc, ◌+◌, ◌%◌, Bool, true, false, List, [], ◌∷◌, drop, ◌≢◌, slice_index_or, refl}
+use Rattle.std.specs.Prelude.{◌≡◌, ℕ, zero, suc, ◌+◌, ◌%◌, Bool, true, false, not, ◌&&◌, ◌||◌, List, [], ◌∷◌, drop, ◌≢◌, slice_index_or, refl, Some, None}
 use Rattle.std.proofs.Common.{sym, ap, ◌∙◌, arith, eq-eqb, ne_eqb}
 use Rattle.std.proofs.Math.ListN.{get_elem?}
 use Rattle.limits.specs.Limits.{tsns}
 use Rattle.limits.specs.Moments.{passed}
 use Rattle.model.specs.declared.Chunk.{Chunk}
-use Rattle.model.specs.declared.Found.{Found}
 use Rattle.model.specs.Lists.{when◌then◌else◌, first}
 use Rattle.model.specs.State.{Flight}
 use Rattle.model.specs.Rings.{bytes}
 use Rattle.model.specs.Flight.{found}
 use Rattle.chunk_slot.specs.Chunks.{blank_chunk}
 use Rattle.ring.specs.Held.{first_none}
-use Rattle.payload_queue.specs.declared.Pending.{Pending}
 use Rattle.payload_queue.specs.Queue.{held_in, Pop, popped_of, is_awaited, overdue_entry}
+use Rattle.payload_queue.specs.Queue.{Pending}
 
 -- other entries from the same oldest TSN on
 pub entries_are : (o : ℕ) {l m : List Chunk} → l ≡ m → ◌≡◌ {A = Flight} (record { oldest = o; entries = l }) (record { oldest = o; entries = m })
@@ -36,23 +35,23 @@ bytes_rest l e q = omega (arith, ap bytes e, ap bytes q)
 
 module _ (t : ℕ) (f : Flight) where
   abbrev stays : Pop
-  stays = record { flight = f; front = Found.Nothing }
+  stays = record { flight = f; front = None }
 
   pub pop_other : (l : List Chunk) → (t ≢ f.oldest) → stays ≡ popped_of l t f
   pop_other [] n = refl
   pop_other (c ∷ l) n =
-      sym (ap (λ (b : Bool). when b then record { flight = record { oldest = (f.oldest + 1) % tsns; entries = l }; front = Found.One c } else stays) (ne_eqb t f.oldest n))
+      sym (ap (λ (b : Bool). when b then record { flight = record { oldest = (f.oldest + 1) % tsns; entries = l }; front = Some c } else stays) (ne_eqb t f.oldest n))
 
-  pub pop_none : (l : List Chunk) → found (first l) ≡ Found.Nothing → stays ≡ popped_of l t f
+  pub pop_none : (l : List Chunk) → found (first l) ≡ None → stays ≡ popped_of l t f
   pop_none l e = sym (ap (λ (m : List Chunk). popped_of m t f) (first_none l e))
 
   pub pop_one : (l : List Chunk) {c : Chunk} → t ≡ f.oldest → l ≡ c ∷ drop 1 l → {m : List Chunk} {n : ℕ} → m ≡ drop 1 l → n ≡ (f.oldest + 1) % tsns
-      → record { flight = record { oldest = n; entries = m }; front = Found.One c } ≡ popped_of l t f
+      → record { flight = record { oldest = n; entries = m }; front = Some c } ≡ popped_of l t f
   pop_one l {c} y e r w =
-      (λ i. record { flight = record { oldest = w i; entries = r i }; front = Found.One c })
-      ∙ sym (ap (λ (k : List Chunk). popped_of k t f) e ∙ ap (λ (b : Bool). when b then record { flight = record { oldest = (f.oldest + 1) % tsns; entries = drop 1 l }; front = Found.One c } else stays) (eq-eqb t f.oldest y))
+      (λ i. record { flight = record { oldest = w i; entries = r i }; front = Some c })
+      ∙ sym (ap (λ (k : List Chunk). popped_of k t f) e ∙ ap (λ (b : Bool). when b then record { flight = record { oldest = (f.oldest + 1) % tsns; entries = drop 1 l }; front = Some c } else stays) (eq-eqb t f.oldest y))
 
--- ---- expired: abandoned, alive, unacknowledged, acknowledged
+-- ---- expired: abandoned, alive, or by the three tests
 
 module _ (now : ℕ) (w : Pending) (c : Chunk) where
   pub not_abandoned : c.abandoned ≡ true → false ≡ overdue_entry now w c
@@ -64,10 +63,11 @@ module _ (now : ℕ) (w : Pending) (c : Chunk) where
     unfolding overdue_entry
     alive d = rw (a, d)
 
-    pub overdue_open : passed now c.message.deadline ≡ true → c.acked ≡ false → true ≡ overdue_entry now w c
-    unfolding overdue_entry
-    overdue_open d k = rw (a, d, k)
-
-    pub overdue_acked : passed now c.message.deadline ≡ true → c.acked ≡ true → is_awaited w c.message.number ≡ overdue_entry now w c
-    unfolding overdue_entry
-    overdue_acked d k = rw (a, d, k)
+  -- what the first two tests say, and then the third
+  pub overdue_both : {b : Bool} → b ≡ (not c.abandoned && passed now c.message.deadline) → (b && (not c.acked || is_awaited w c.message.number)) ≡ overdue_entry now w c
+  unfolding overdue_entry
+  overdue_both e = ap (λ (b : Bool). b && (not c.acked || is_awaited w c.message.number)) e ∙ in_turn (not c.abandoned)
+    where
+      in_turn : (a : Bool) → ((a && passed now c.message.deadline) && (not c.acked || is_awaited w c.message.number)) ≡ (a && (passed now c.message.deadline && (not c.acked || is_awaited w c.message.number)))
+      in_turn true = refl
+      in_turn false = refl

@@ -1,20 +1,19 @@
 -- The least deadline of the entries that are not abandoned, and what a change of the entries does to it. Before it nothing is overdue.
-use Rattle.std.specs.Prelude.{◌≡◌, ℕ, zero, suc, ◌+◌, ◌%◌, ◌<◌, ◌≤◌, min, Bool, true, false, List, [], ◌∷◌, ◌++◌, map, length, drop, nat_lt, refl}
+use Rattle.std.specs.Prelude.{◌≡◌, ℕ, zero, suc, ◌+◌, ◌%◌, ◌<◌, ◌≤◌, min, Bool, true, false, List, [], ◌∷◌, ◌++◌, map, length, drop, nat_lt, refl, Some, None}
 use Rattle.std.proofs.Common.{ap, sym, ◌∙◌, arith}
 use Rattle.std.proofs.lemmas.Bool.{lt-leb}
 use Rattle.limits.specs.Limits.{tsns}
-use Rattle.limits.specs.declared.Moment.{Moment}
-use Rattle.limits.specs.Moments.{passed}
+use Rattle.limits.specs.Moments.{passed, Moment}
 use Rattle.model.specs.declared.Chunk.{Chunk}
 use Rattle.model.specs.Lists.{when◌then◌else◌, adjust}
 use Rattle.model.specs.State.{is_of}
 use Rattle.model.specs.Rings.{tsns_of, marked, given_up}
 use Rattle.model.specs.Flight.{acknowledged, to_retransmit}
 use Rattle.rows.specs.Joins.{pushed}
-use Rattle.payload_queue.specs.declared.Pending.{Pending}
 use Rattle.payload_queue.specs.Queue.{never, due_at, due_of, least_due, overdue_entry}
 use Rattle.payload_queue.specs.OneRun.{given_up_run, given_up_from}
 use Rattle.payload_queue.specs.Cases.{not_abandoned, alive}
+use Rattle.payload_queue.specs.Queue.{Pending}
 
 -- ---- of an entry: abandoned, or not
 
@@ -82,8 +81,8 @@ least_given number (suc i) (c ∷ l) = omega (arith, least_given number i l)
 -- ---- before it nothing is overdue
 
 none_passed : (now : ℕ) (m : Moment) → now < due_at m → passed now m ≡ false
-none_passed now Moment.Absent h = refl
-none_passed now (Moment.At d) h = lt-leb d now h
+none_passed now None h = refl
+none_passed now (Some d) h = lt-leb d now h
 
 not_due : (now : ℕ) (w : Pending) (c : Chunk) → now < due_of c → overdue_entry now w c ≡ false
 unfolding due_of

@@ -1,17 +1,17 @@
 -- The list of TSNs of the entries that pass a test: a step of it, its length, and how it is written into a lent list.
-use Rattle.std.specs.Prelude.{◌≡◌, ℕ, ◌+◌, ◌%◌, ◌<◌, ◌≤◌, Bool, true, false, List, [], ◌∷◌, ◌++◌, length, drop, slice_set, refl}
+use Rattle.std.specs.Prelude.{◌≡◌, ℕ, ◌+◌, ◌%◌, ◌<◌, ◌≤◌, Bool, true, false, List, [], ◌∷◌, ◌++◌, length, drop, slice_set, refl, Ok, Err}
 use Rattle.std.proofs.Common.{sym, ap, subst, ◌∙◌, arith, lt-ltb, le-ltb}
 use Rattle.limits.specs.Limits.{tsns}
-use Rattle.limits.specs.Refusals.{list_short}
 use Rattle.model.specs.declared.Chunk.{Chunk}
-use Rattle.model.specs.declared.Listed.{Listed}
 use Rattle.model.specs.Lists.{when◌then◌else◌}
 use Rattle.model.specs.State.{Flight}
 use Rattle.model.specs.Rings.{tsns_of}
 use Rattle.rows.specs.Walks.{count}
 use Rattle.rows.specs.Fills.{Filled, fill_below, fill_turn, fill_length, fill_as, fill_met}
-use Rattle.payload_queue.specs.declared.Pending.{Pending}
 use Rattle.payload_queue.specs.Queue.{listed, written, Lists, overdue_tsns, sought_tsns}
+use Rattle.limits.specs.declared.Refusal.TheVariants.{ListShort}
+use Rattle.model.specs.Answers.{Listed}
+use Rattle.payload_queue.specs.Queue.{Pending}
 
 -- the TSN after this one
 abbrev pub next : ℕ → ℕ
@@ -47,10 +47,10 @@ count_within p (c ∷ l) = one (p c) (count_within p l)
 -- ---- refused, or written
 
 module _ (ts out : List ℕ) where
-  pub no_room : length out < length ts → (Listed.Refused list_short ≡ listed ts out) × (out ≡ written ts out)
+  pub no_room : length out < length ts → (Err ListShort ≡ listed ts out) × (out ≡ written ts out)
   no_room h = let b = lt-ltb (length out) (length ts) h in (rw b, rw b)
 
-  pub fits : length ts ≤ length out → (Listed.Count (length ts) ≡ listed ts out) × (ts ++ drop (length ts) out ≡ written ts out)
+  pub fits : length ts ≤ length out → (Ok (length ts) ≡ listed ts out) × (ts ++ drop (length ts) out ≡ written ts out)
   fits h = let b = le-ltb (length out) (length ts) h in (rw b, rw b)
 
 -- ---- before the bound nothing is looked for

@@ -1,19 +1,19 @@
 -- The calls as document 01's: what they do to the flight and answer is what the model's do of a whole sender.
-use Rattle.std.specs.Prelude.{◌≡◌, ℕ, zero, suc, ◌+◌, ◌%◌, ◌<◌, Bool, true, false, not, ◌&&◌, ◌||◌, List, [], ◌∷◌, ◌++◌, length, ◌==◌, slice_index_or, refl}
+use Rattle.std.specs.Prelude.{◌≡◌, ℕ, zero, suc, ◌+◌, ◌%◌, ◌<◌, Bool, true, false, not, ◌&&◌, ◌||◌, List, [], ◌∷◌, ◌++◌, length, ◌==◌, slice_index_or, refl, Some, None}
 use Rattle.std.proofs.Common.{sym, ap, ◌∙◌, arith}
 use Rattle.std.proofs.Math.Option.{Option, none, some}
 use Rattle.std.proofs.Math.ListN.{get_elem?}
 use Rattle.limits.specs.Limits.{tsns}
 use Rattle.limits.specs.Moments.{passed}
 use Rattle.model.specs.declared.Chunk.{Chunk}
-use Rattle.model.specs.declared.Found.{Found}
 use Rattle.model.specs.Lists.{when◌then◌else◌, some_of, adjust}
 use Rattle.model.specs.State.{Sender, Flight, Out, Pending as Waiting, with_entries, place, in_flight, is_of}
 use Rattle.model.specs.Rings.{tsns_of, expired_entry}
 use Rattle.model.specs.Flight.{acknowledged, acknowledging, popping}
 use Rattle.chunk_slot.specs.Chunks.{blank_chunk}
-use Rattle.payload_queue.specs.declared.Pending.{Pending}
 use Rattle.payload_queue.specs.Queue.{acked, held_in, Pop, popped_of, is_awaited, overdue_entry, overdue_tsns}
+use Rattle.model.specs.Answers.{Found}
+use Rattle.payload_queue.specs.Queue.{Pending}
 
 -- a sender with another flight
 abbrev pub with_flight : Flight → Sender → Sender
@@ -26,10 +26,10 @@ popping_is [] t s = refl
 popping_is (c ∷ l) t s = go (t == s.flight.oldest)
   where
     popped : Pop
-    popped = record { flight = record { oldest = (s.flight.oldest + 1) % tsns; entries = l }; front = Found.One c }
+    popped = record { flight = record { oldest = (s.flight.oldest + 1) % tsns; entries = l }; front = Some c }
 
     stays : Pop
-    stays = record { flight = s.flight; front = Found.Nothing }
+    stays = record { flight = s.flight; front = None }
 
     told : Pop → Out Found
     told r = record { after = with_flight r.flight s; says = r.front }

@@ -1,13 +1,11 @@
 -- What the queue's numbers and cells mean, and what each call does to that flight, in the model's words.
-use Rattle.std.specs.Prelude.{◌≡◌, ℕ, ◌+◌, ◌%◌, ◌≤◌, min, Bool, false, not, ◌&&◌, ◌||◌, List, [], ◌∷◌, ◌++◌, length, drop, ◌==◌, ◌≢◌, nat_lt}
+use Rattle.std.specs.Prelude.{◌≡◌, ℕ, ◌+◌, ◌%◌, ◌≤◌, min, Bool, false, not, ◌&&◌, ◌||◌, List, [], ◌∷◌, ◌++◌, length, drop, ◌==◌, ◌≢◌, nat_lt, Some, None, Ok, Err, Option as Maybe}
+use Rattle.std.specs.Option.{unwrap_or}
 use Rattle.std.proofs.Math.Option.{Option, none, some}
 use Rattle.limits.specs.Limits.{tsns}
-use Rattle.limits.specs.Refusals.{done, list_short}
-use Rattle.limits.specs.declared.Moment.{Moment}
-use Rattle.limits.specs.Moments.{passed}
+use Rattle.limits.specs.Refusals.{done}
+use Rattle.limits.specs.Moments.{passed, Moment}
 use Rattle.model.specs.declared.Chunk.{Chunk}
-use Rattle.model.specs.declared.Found.{Found}
-use Rattle.model.specs.declared.Listed.{Listed}
 use Rattle.model.specs.Lists.{when◌then◌else◌, adjust}
 use Rattle.model.specs.State.{Flight, place}
 use Rattle.model.specs.Told.{told_listed}
@@ -16,9 +14,8 @@ use Rattle.model.specs.Flight.{acknowledged}
 use Rattle.rows.specs.Joins.{pushed}
 use Rattle.ring.specs.Held.{held}
 use Rattle.payload_queue.specs.declared.PayloadQueue.{PayloadQueue}
-use Rattle.payload_queue.specs.declared.Popped.{Popped}
-use Rattle.payload_queue.specs.declared.overdue.Overdue.{Overdue}
-use Rattle.payload_queue.specs.declared.Pending.{Pending}
+use Rattle.limits.specs.declared.Refusal.TheVariants.{ListShort}
+use Rattle.model.specs.Answers.{Found, Listed}
 
 -- what is in flight
 abbrev pub flight_of : PayloadQueue → List ℕ → Flight
@@ -32,8 +29,7 @@ never = 18446744073709551615
 
 -- that of a message
 abbrev pub due_at : Moment → ℕ
-due_at Moment.Absent = never
-due_at (Moment.At d) = d
+due_at m = unwrap_or m never
 
 -- that of an entry
 unfoldable pub due_of : Chunk → ℕ
@@ -90,28 +86,32 @@ pub record Pop : Type 0 where
   pub flight : Flight
   pub front : Found
 
-abbrev pub outcome : Popped → List ℕ → Pop
-outcome r ws = record { flight = flight_of r.queue ws; front = r.front }
+abbrev pub outcome : PayloadQueue → List ℕ → Found → Pop
+outcome q ws front = record { flight = flight_of q ws; front = front }
 
 -- only the oldest is taken, as `popping` of the model says
 abbrev pub popped_of : List Chunk → (tsn : ℕ) → Flight → Pop
-popped_of [] t f = record { flight = f; front = Found.Nothing }
+popped_of [] t f = record { flight = f; front = None }
 popped_of (c ∷ l) t f =
-    when t == f.oldest then record { flight = record { oldest = (f.oldest + 1) % tsns; entries = l }; front = Found.One c }
-    else record { flight = f; front = Found.Nothing }
+    when t == f.oldest then record { flight = record { oldest = (f.oldest + 1) % tsns; entries = l }; front = Some c }
+    else record { flight = f; front = None }
 
 abbrev pub popped : (tsn : ℕ) → Flight → Pop
 popped t f = popped_of f.entries t f
 
 -- only the oldest is taken, and the counter stays the sum, and the bound one
-abbrev pub Pops : (tsn : ℕ) → PayloadQueue → List ℕ → Popped → Type 0
-Pops t q ws r = (outcome r ws ≡ popped t (flight_of q ws)) × (Counted q ws → Counted r.queue ws)
+abbrev pub Pops : (tsn : ℕ) → PayloadQueue → List ℕ → PayloadQueue → Found → Type 0
+Pops t q ws q' front = (outcome q' ws front ≡ popped t (flight_of q ws)) × (Counted q ws → Counted q' ws)
 
 -- ---- expired: not abandoned, at or past its deadline, and unacknowledged or of the message that is still pending
 
+-- the number of the message under way, if there is one
+abbrev pub Pending : Type 0
+Pending = Maybe ℕ
+
 abbrev pub is_awaited : Pending → (number : ℕ) → Bool
-is_awaited Pending.Nothing n = false
-is_awaited (Pending.Message m) n = n == m
+is_awaited None n = false
+is_awaited (Some m) n = n == m
 
 unfoldable pub overdue_entry : (now : ℕ) → Pending → Chunk → Bool
 overdue_entry now w c = not c.abandoned && (passed now c.message.deadline && (not c.acked || is_awaited w c.message.number))
@@ -122,7 +122,7 @@ overdue_tsns now w f = tsns_of (overdue_entry now w) f.oldest f.entries
 
 -- the answer: refused where the lent list is too short
 abbrev pub listed : (ts out : List ℕ) → Listed
-listed ts out = when nat_lt (length out) (length ts) then Listed.Refused list_short else Listed.Count (length ts)
+listed ts out = when nat_lt (length out) (length ts) then Err ListShort else Ok (length ts)
 
 -- the TSNs stand at the front where they fit, and the rest is as it was
 abbrev pub written : (ts out : List ℕ) → List ℕ
@@ -141,7 +141,7 @@ abbrev pub sought_tsns : (due now : ℕ) → Pending → Flight → List ℕ
 sought_tsns due now w f = when nat_lt now due then [] else overdue_tsns now w f
 
 -- that list is told, and the flight stays; a refused call leaves the queue as it was
-abbrev pub Finds : (now : ℕ) → Pending → PayloadQueue → List ℕ → (out out' : List ℕ) → Overdue → Type 0
-Finds now w q ws out out' r =
-    Lists (sought_tsns q.due now w (flight_of q ws)) out out' r.answer × Becomes (λ f. f) q ws r.queue ws
-    × (((told_listed r.answer).number ≢ done) → r.queue ≡ q)
+abbrev pub Finds : (now : ℕ) → Pending → PayloadQueue → List ℕ → (out out' : List ℕ) → PayloadQueue → Listed → Type 0
+Finds now w q ws out out' q' answer =
+    Lists (sought_tsns q.due now w (flight_of q ws)) out out' answer × Becomes (λ f. f) q ws q' ws
+    × (((told_listed answer).number ≢ done) → q' ≡ q)

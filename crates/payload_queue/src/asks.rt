@@ -6,60 +6,53 @@ ghost use Rattle.model.specs.Flight.{outstanding, has_stream, earliest};
 ghost use Rattle.payload_queue.specs.Queue.{flight_of, Counted};
 
 use super::PayloadQueue;
-use model::{Chunk, Earliest};
-
-pub fn len(q: PayloadQueue, cells: &[u64]) -> usize
-    ensures { result ≡ length (flight_of q cells.now).entries }
-{
-    ring::count(q.ring, cells)
-}
-
-// The bytes in flight, in constant time.
-pub fn bytes(q: PayloadQueue) -> u64
-    ensures { (result ≡ q.bytes) × ((ws : List ℕ) → Counted q ws → result ≡ bytes (flight_of q ws).entries) }
-{
-    q.bytes
-}
-
-// The TSN of the next chunk that is filed.
-pub fn next_tsn(q: PayloadQueue, cells: &[u64]) -> u32
-    ensures { result ≡ (q.oldest + length (flight_of q cells.now).entries) % tsns }
-{
-    let n = ring::count(q.ring, cells);
-    std::num::wrapping_add_u32(q.oldest, n as u32)
-}
-
-pub fn contains_stream(q: PayloadQueue, cells: &[u64], stream: u16) -> bool
-    ensures { result ≡ has_stream stream (flight_of q cells.now).entries }
-{
-    ring::parts::has_stream(q.ring, cells, stream)
-}
+use model::Chunk;
 
 // Neither acknowledged nor abandoned.
 pub fn is_outstanding(chunk: Chunk) -> bool
     ensures { result ≡ outstanding chunk }
 {
-    if chunk.acked {
-        return false;
-    }
-    !chunk.abandoned
+    !chunk.acked && !chunk.abandoned
 }
 
-// The oldest TSN that is neither acknowledged nor abandoned.
-pub fn earliest_outstanding(q: PayloadQueue, cells: &[u64]) -> Earliest
-    ensures { result ≡ earliest (tsns_of outstanding q.oldest (flight_of q cells.now).entries) }
-{
-    let ring = q.ring;
-    let n = ring::count(ring, cells);
-    let mut tsn = q.oldest;
-    let mut i = 0;
-    while i < n {
-        let chunk = ring::nth(ring, cells, i);
-        if is_outstanding(chunk) {
-            return Earliest::Tsn(tsn);
-        }
-        tsn = std::num::wrapping_add_u32(tsn, 1);
-        i += 1;
+impl PayloadQueue {
+    pub fn len(&self, cells: &[u64]) -> usize
+        ensures { result ≡ length (flight_of self.now cells.now).entries }
+    {
+        self.ring.count(cells)
     }
-    Earliest::Nothing
+
+    // The bytes in flight, in constant time.
+    pub fn bytes(&self) -> u64
+        ensures { (result ≡ self.now.bytes) × ((ws : List ℕ) → Counted self.now ws → result ≡ bytes (flight_of self.now ws).entries) }
+    {
+        self.bytes
+    }
+
+    // The TSN of the next chunk that is filed.
+    pub fn next_tsn(&self, cells: &[u64]) -> u32
+        ensures { result ≡ (self.now.oldest + length (flight_of self.now cells.now).entries) % tsns }
+    {
+        self.oldest.wrapping_add(self.len(cells) as u32)
+    }
+
+    pub fn contains_stream(&self, cells: &[u64], stream: u16) -> bool
+        ensures { result ≡ has_stream stream (flight_of self.now cells.now).entries }
+    {
+        self.ring.has_stream(cells, stream)
+    }
+
+    // The oldest TSN that is neither acknowledged nor abandoned.
+    pub fn earliest_outstanding(&self, cells: &[u64]) -> Option<u32>
+        ensures { result ≡ earliest (tsns_of outstanding self.now.oldest (flight_of self.now cells.now).entries) }
+    {
+        let mut tsn = self.oldest;
+        for i in 0..self.len(cells) {
+            if is_outstanding(self.ring.nth(cells, i)) {
+                return Some(tsn);
+            }
+            tsn = tsn.wrapping_add(1);
+        }
+        None
+    }
 }

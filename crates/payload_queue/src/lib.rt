@@ -16,8 +16,7 @@ ghost use Rattle.chunk_slot.specs.Meaning.{chunk_for};
 ghost use Rattle.payload_queue.specs.Queue.{Becomes, Pops, flight_of, Counted, filed, due_of};
 
 use chunk_slot::Words;
-use limits::Moment;
-use model::{Chunk, Found};
+use model::Chunk;
 use ring::Ring;
 
 // The bound of a flight in which nothing can expire.
@@ -32,44 +31,17 @@ pub struct PayloadQueue {
     pub due: u64,
 }
 
-#[derive(Clone, Copy)]
-pub struct Popped {
-    pub queue: PayloadQueue,
-    pub front: Found,
-}
-
-// The one message that can be both in flight and pending: the message under way.
-#[derive(Clone, Copy)]
-pub enum Pending {
-    Nothing,
-    Message(u64),
-}
-
-// Nothing is in flight yet, and the first chunk that is filed takes the TSN `oldest`.
-pub fn new(oldest: u32) -> PayloadQueue
-    ensures { (ws : List ℕ) → (flight_of result ws ≡ record { oldest = oldest; entries = [] }) × Counted result ws }
-{
-    let ring = Ring { start: 0, len: 0 };
-    PayloadQueue {
-        ring: ring,
-        oldest: oldest,
-        bytes: 0,
-        due: NEVER,
-    }
-}
+// The number of the one message that can be both in flight and pending: the message under way.
+pub type Pending = Option<u64>;
 
 // The deadline of a chunk that is not abandoned.
 fn due_of(chunk: Chunk) -> u64
     ensures { result ≡ due_of chunk }
 {
     if chunk.abandoned {
-        return NEVER;
-    }
-    let message = chunk.message;
-    let deadline = message.deadline;
-    match deadline {
-        Moment::Absent => NEVER,
-        Moment::At(time) => time,
+        NEVER
+    } else {
+        chunk.message.deadline.unwrap_or(NEVER)
     }
 }
 
@@ -77,77 +49,57 @@ fn due_of(chunk: Chunk) -> u64
 pub fn lowered(due: u64, chunk: Chunk) -> u64
     ensures { result ≡ min due (due_of chunk) }
 {
-    let own = due_of(chunk);
-    if own < due { own } else { due }
+    due.min(due_of(chunk))
 }
 
-// Files the chunk of the words behind the others, where there is room: it takes the next TSN.
-pub fn push(q: PayloadQueue, cells: &mut [u64], words: Words) -> PayloadQueue
-    ensures { Becomes (filed (room_of cells.old) (chunk_for words)) q cells.old result cells.new }
-{
-    let longer = ring::push(q.ring, cells, words);
-    let ring = longer.ring;
-    if !longer.done {
-        return PayloadQueue {
-            ring: ring,
-            oldest: q.oldest,
-            bytes: q.bytes,
-            due: q.due,
-        };
+impl PayloadQueue {
+    // Nothing is in flight yet, and the first chunk that is filed takes the TSN `oldest`.
+    pub fn new(oldest: u32) -> PayloadQueue
+        ensures { (ws : List ℕ) → (flight_of result ws ≡ record { oldest = oldest; entries = [] }) × Counted result ws }
+    {
+        PayloadQueue {
+            ring: Ring::default(),
+            oldest,
+            bytes: 0,
+            due: NEVER,
+        }
     }
-    let length = chunk_slot::length_of(words);
-    let sum = std::num::wrapping_add_u64(q.bytes, length as u64);
-    let chunk = chunk_slot::unpack(words);
-    let due = lowered(q.due, chunk);
-    PayloadQueue {
-        ring: ring,
-        oldest: q.oldest,
-        bytes: sum,
-        due: due,
+
+    // Files the chunk of the words behind the others, where there is room: it takes the next TSN.
+    pub fn push(&mut self, cells: &mut [u64], words: Words)
+        ensures { Becomes (filed (room_of cells.old) (chunk_for words)) self.old cells.old self.new cells.new }
+    {
+        if self.ring.push(cells, words) {
+            let length = chunk_slot::length_of(words);
+            self.bytes = self.bytes.wrapping_add(length as u64);
+            self.due = lowered(self.due, chunk_slot::unpack(words));
+        }
     }
-}
 
-// How far a TSN is behind the oldest; past the end if it is not in flight.
-pub fn place(oldest: u32, tsn: u32) -> usize
-    ensures { result ≡ (tsn + tsns - oldest) % tsns }
-{
-    std::num::wrapping_sub_u32(tsn, oldest) as usize
-}
-
-pub fn get(q: PayloadQueue, cells: &[u64], tsn: u32) -> Found
-    ensures { result ≡ found (in_flight tsn (flight_of q cells.now)) }
-{
-    let i = place(q.oldest, tsn);
-    ring::get(q.ring, cells, i)
-}
-
-// Takes the oldest, if it has this TSN.
-pub fn pop(q: PayloadQueue, cells: &[u64], tsn: u32) -> Popped
-    ensures { Pops tsn q cells.now result }
-{
-    if tsn != q.oldest {
-        return Popped {
-            queue: q,
-            front: Found::Nothing,
-        };
+    // How far a TSN is behind the oldest; past the end if it is not in flight.
+    pub fn place(&self, tsn: u32) -> usize
+        ensures { result ≡ (tsn + tsns - self.now.oldest) % tsns }
+    {
+        tsn.wrapping_sub(self.oldest) as usize
     }
-    let front = ring::peek(q.ring, cells);
-    let Found::One(chunk) = front else {
-        return Popped {
-            queue: q,
-            front: Found::Nothing,
-        };
-    };
-    let rest = ring::shorter(q.ring, cells);
-    let next = std::num::wrapping_add_u32(q.oldest, 1);
-    let left = std::num::wrapping_sub_u64(q.bytes, chunk.length as u64);
-    Popped {
-        queue: PayloadQueue {
-            ring: rest,
-            oldest: next,
-            bytes: left,
-            due: q.due,
-        },
-        front: Found::One(chunk),
+
+    pub fn get(&self, cells: &[u64], tsn: u32) -> Option<Chunk>
+        ensures { result ≡ found (in_flight tsn (flight_of self.now cells.now)) }
+    {
+        self.ring.get(cells, self.place(tsn))
+    }
+
+    // Takes the oldest, if it has this TSN.
+    pub fn pop(&mut self, cells: &[u64], tsn: u32) -> Option<Chunk>
+        ensures { Pops tsn self.old cells.now self.new result }
+    {
+        if tsn != self.oldest {
+            return None;
+        }
+        let chunk = self.ring.peek(cells)?;
+        self.ring.drop_first(cells);
+        self.oldest = self.oldest.wrapping_add(1);
+        self.bytes = self.bytes.wrapping_sub(chunk.length as u64);
+        Some(chunk)
     }
 }

@@ -8,108 +8,64 @@ ghost use Rattle.payload_queue.specs.Queue.{Becomes, Tells, changed, acked, held
 ghost use Rattle.payload_queue.specs.OneRun.{first_of, held_from, given_up_from, held_near, given_up_near};
 
 use super::PayloadQueue;
-use ring::Ring;
 
-// The bytes that the entry held.
-#[derive(Clone, Copy)]
-pub struct Acked {
-    pub queue: PayloadQueue,
-    pub bytes: u32,
-}
-
-// The bytes that the message held in flight.
-#[derive(Clone, Copy)]
-pub struct Freed {
-    pub queue: PayloadQueue,
-    pub bytes: u64,
-}
-
-// The entry of an unknown TSN holds nothing, and is marked nowhere.
-pub fn mark_as_acked(q: PayloadQueue, cells: &mut [u64], tsn: u32) -> Acked
-    ensures { Tells (acked tsn) (λ f. held_in (in_flight tsn f)) q cells.old result.queue cells.new result.bytes }
-{
-    let ring = q.ring;
-    let i = super::place(q.oldest, tsn);
-    let held = ring::parts::acknowledge_nth(ring, cells, i);
-    let left = std::num::wrapping_sub_u64(q.bytes, held as u64);
-    Acked {
-        queue: PayloadQueue {
-            ring: ring,
-            oldest: q.oldest,
-            bytes: left,
-            due: q.due,
-        },
-        bytes: held,
+impl PayloadQueue {
+    // The answer is the bytes that the entry held. That of an unknown TSN holds nothing, and is marked nowhere.
+    pub fn mark_as_acked(&mut self, cells: &mut [u64], tsn: u32) -> u32
+        ensures { Tells (acked tsn) (λ f. held_in (in_flight tsn f)) self.old cells.old self.new cells.new result }
+    {
+        let held = self.ring.acknowledge_nth(cells, self.place(tsn));
+        self.bytes = self.bytes.wrapping_sub(held as u64);
+        held
     }
-}
 
-// ---- the entries of a message
+    // ---- the entries of a message
 
-// Where the run of a message's entries begins that reaches up to a place.
-fn first_of(ring: Ring, cells: &[u64], near: usize, number: u64) -> usize
-    ensures { result ≡ first_of number near (held ring cells.now) }
-{
-    let mut i = near;
-    while 0 < i {
-        let before = ring::parts::nth_number(ring, cells, i - 1);
-        if before != number {
-            return i;
+    // Where the run of a message's entries begins that reaches up to a place.
+    fn first_of(&self, cells: &[u64], near: usize, number: u64) -> usize
+        ensures { result ≡ first_of number near (held self.now.ring cells.now) }
+    {
+        for i in (0..near).rev() {
+            if self.ring.nth_number(cells, i) != number {
+                return i + 1;
+            }
         }
-        i -= 1;
+        0
     }
-    0
-}
 
-// The bytes that the run of a message's entries from a place on holds, which are given up on the way.
-fn give_up_run(ring: Ring, cells: &mut [u64], from: usize, number: u64) -> u64
-    ensures { (result ≡ held_from number from (held ring cells.old)) × (held ring cells.new ≡ given_up_from number from (held ring cells.old)) }
-{
-    let n = ring::count(ring, cells);
-    let mut sum: u64 = 0;
-    let mut i = from;
-    while i < n {
-        let of = ring::parts::nth_number(ring, cells, i);
-        if of != number {
-            return sum;
+    // The bytes that the run of a message's entries from a place on holds, which are given up on the way.
+    fn give_up_run(&self, cells: &mut [u64], from: usize, number: u64) -> u64
+        ensures { (result ≡ held_from number from (held self.now.ring cells.old)) × (held self.now.ring cells.new ≡ given_up_from number from (held self.now.ring cells.old)) }
+    {
+        let mut sum: u64 = 0;
+        for i in from..self.len(cells) {
+            if self.ring.nth_number(cells, i) != number {
+                return sum;
+            }
+            sum += self.ring.give_up_nth(cells, i, number) as u64;
         }
-        let released = ring::parts::give_up_nth(ring, cells, i, number);
-        sum += released as u64;
-        i += 1;
+        sum
     }
-    sum
-}
 
-// Gives up the run of a message's entries around a place, and answers the bytes that they held. In every state that calls reach a message
-// has no other entries.
-pub fn abandon_message(q: PayloadQueue, cells: &mut [u64], near: usize, number: u64) -> Freed
-    ensures { Tells (changed (given_up_near number near)) (λ f. held_near number near f.entries) q cells.old result.queue cells.new result.bytes }
-{
-    let ring = q.ring;
-    let from = first_of(ring, cells, near, number);
-    let released = give_up_run(ring, cells, from, number);
-    let left = std::num::wrapping_sub_u64(q.bytes, released);
-    Freed {
-        queue: PayloadQueue {
-            ring: ring,
-            oldest: q.oldest,
-            bytes: left,
-            due: q.due,
-        },
-        bytes: released,
+    // Gives up the run of a message's entries around a place, and answers the bytes that they held. In every state that calls reach a message
+    // has no other entries.
+    pub fn abandon_message(&mut self, cells: &mut [u64], near: usize, number: u64) -> u64
+        ensures { Tells (changed (given_up_near number near)) (λ f. held_near number near f.entries) self.old cells.old self.new cells.new result }
+    {
+        let from = self.first_of(cells, near, number);
+        let released = self.give_up_run(cells, from, number);
+        self.bytes = self.bytes.wrapping_sub(released);
+        released
     }
-}
 
-// ---- all entries
+    // ---- all entries
 
-// Every entry that is neither acknowledged nor abandoned is to be retransmitted. The queue's numbers stay.
-pub fn mark_all_to_retransmit(q: PayloadQueue, cells: &mut [u64])
-    ensures { Becomes (changed (map to_retransmit)) q cells.old q cells.new }
-{
-    let ring = q.ring;
-    let n = ring::count(ring, cells);
-    let mut i = 0;
-    while i < n {
-        ring::parts::mark_nth(ring, cells, i);
-        i += 1;
+    // Every entry that is neither acknowledged nor abandoned is to be retransmitted. The queue's numbers stay.
+    pub fn mark_all_to_retransmit(&self, cells: &mut [u64])
+        ensures { Becomes (changed (map to_retransmit)) self.now cells.old self.now cells.new }
+    {
+        for i in 0..self.len(cells) {
+            self.ring.mark_nth(cells, i);
+        }
     }
 }

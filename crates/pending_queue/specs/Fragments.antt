@@ -1,5 +1,6 @@
 -- A message is cut into fragments, and these join the back of its ring: all of them, or none.
-use Rattle.std.specs.Prelude.{◌≡◌, ℕ, zero, suc, ◌+◌, ◌-◌, ◌*◌, ◌<◌, ◌≤◌, Bool, true, false, ◌&&◌, List, [], ◌∷◌, ◌++◌, length, ◌==◌, ◌≢◌, nat_le, refl}
+use Rattle.std.specs.Prelude.{◌≡◌, ℕ, zero, suc, ◌+◌, ◌-◌, ◌*◌, ◌<◌, ◌≤◌, Bool, true, false, ◌&&◌, List, [], ◌∷◌, ◌++◌, length, ◌==◌, ◌≢◌, nat_le, refl, Some, None, Option as Maybe}
+use Rattle.std.specs.Option.{unwrap_or}
 use Rattle.std.proofs.Common.{sym, ap, ap₂, ◌∙◌, append-nil, suc-mul, div-add-mod', mod-lt, arith, le-leb, leb-true, ne_eqb}
 use Rattle.std.proofs.Math.Nat.{div-zero}
 use Rattle.std.proofs.Math.Seq.{append_snoc}
@@ -24,6 +25,19 @@ added room x m o n l = when fits room m o n l then l ++ cut x true (pieces n m) 
 -- they join, all or none: the ring was `l` and is `k` then; the bytes that they bring and whether there was room are told
 abbrev pub Adds : (room : ℕ) → Message → (maximum offset length : ℕ) → (l k : List Chunk) → (bytes : ℕ) → Bool → Type 0
 Adds room x m o n l k more done = (k ≡ added room x m o n l) × (done ≡ fits room m o n l) × (bytes k ≡ bytes l + more)
+
+-- their bytes: all of the message, and none where the maximum is 0
+abbrev pub bytes_of : (length maximum : ℕ) → ℕ
+bytes_of n zero = 0
+bytes_of n (suc m) = n
+
+-- the bytes that they bring, and nothing where they are not added
+abbrev pub brought : (room maximum offset length : ℕ) → List Chunk → Maybe ℕ
+brought room m o n l = when fits room m o n l then Some (bytes_of n m) else None
+
+-- the same, of an answer that has the bytes only where there was room
+abbrev pub Brings : (room : ℕ) → Message → (maximum offset length : ℕ) → (l k : List Chunk) → Maybe ℕ → Type 0
+Brings room x m o n l k answer = (k ≡ added room x m o n l) × (answer ≡ brought room m o n l) × (bytes k ≡ bytes l + unwrap_or answer 0)
 
 -- whether a message's fragments are added, where each ring has this room
 abbrev pub fits_in : (room : ℕ) → Message → (maximum offset length : ℕ) → Pending → Bool
@@ -87,11 +101,7 @@ cut_turn x b (suc k) m o n l {f} {l'} h p q r v =
 pub cut_done : (x : Message) (b : Bool) (k m o n : ℕ) {l all : List Chunk} → k ≡ 0 → l ++ cut x b k m o n ≡ all → l ≡ all
 cut_done x b k m o n {l} e v = sym (ap (λ (j : ℕ). l ++ cut x b j m o n) e ∙ append-nil l) ∙ v
 
--- ---- their bytes: all of the message, and none where the maximum is 0
-
-abbrev pub bytes_of : (length maximum : ℕ) → ℕ
-bytes_of n zero = 0
-bytes_of n (suc m) = n
+-- ---- their bytes
 
 pub bytes_some : (n m : ℕ) → (m ≢ 0) → n ≡ bytes_of n m
 bytes_some n zero h = absurd (h refl)

@@ -1,19 +1,15 @@
 -- The head is taken from its ring.
-use Rattle.std.specs.Prelude.{◌≡◌, ℕ, ◌+◌, Bool, true, false, not, List, [], ◌∷◌, length, drop, nat_lt, refl}
+use Rattle.std.specs.Prelude.{◌≡◌, ℕ, ◌+◌, Bool, true, false, not, List, [], ◌∷◌, length, drop, nat_lt, refl, Some, None}
 use Rattle.std.proofs.Common.{sym, ap, ap₂, ◌∙◌, arith, lt-ltb}
 use Rattle.model.specs.declared.Chunk.{Chunk}
-use Rattle.model.specs.declared.Found.{Found}
-use Rattle.model.specs.declared.Lane.{Lane}
-use Rattle.model.specs.declared.Lane.TheVariants.{Unordered, Ordered}
-use Rattle.model.specs.declared.UnderWay.{UnderWay}
-use Rattle.model.specs.declared.UnderWay.TheVariants.{Idle}
+use Rattle.model.specs.State.{Lane, Unordered, Ordered, UnderWay, Idle, Pending, at, lane_of, with_ring}
 use Rattle.model.specs.Lists.{when◌then◌else◌, first}
-use Rattle.model.specs.State.{Pending, at, lane_of, with_ring}
 use Rattle.model.specs.Rings.{lane_ahead, head_lane, head, under_way_after, bytes}
 use Rattle.model.specs.Flight.{found}
 use Rattle.ring.specs.Held.{first_none, first_one}
 use Rattle.pending_queue.specs.declared.PendingQueue.{PendingQueue}
 use Rattle.pending_queue.specs.Queue.{under_way_of, bytes_in, pending_in, Counted}
+use Rattle.model.specs.Answers.{Found}
 
 -- the front of a ring, which is the list, is taken
 abbrev pub popped_from : Lane → List Chunk → Pending → Pending
@@ -48,13 +44,13 @@ head_at p e q = q ∙ ap (λ (l : Lane). found (first (at l p))) e
 
 -- ---- the two ways of taking it
 
-none_from : (p : Pending) (l : Lane) (x : List Chunk) → found (first x) ≡ Found.Nothing → p ≡ popped_from l x p
+none_from : (p : Pending) (l : Lane) (x : List Chunk) → found (first x) ≡ None → p ≡ popped_from l x p
 none_from p l x e = sym (ap (λ (y : List Chunk). popped_from l y p) (first_none x e))
 
-pub popped_none : (p : Pending) → found (head p) ≡ Found.Nothing → p ≡ popped p
+pub popped_none : (p : Pending) → found (head p) ≡ None → p ≡ popped p
 popped_none p e = none_from p (head_lane p) (at (head_lane p) p) e
 
-one_from : (p : Pending) (l : Lane) (x : List Chunk) (c : Chunk) → found (first x) ≡ Found.One c → with_ring l (under_way_after l c) (drop 1 x) p ≡ popped_from l x p
+one_from : (p : Pending) (l : Lane) (x : List Chunk) (c : Chunk) → found (first x) ≡ Some c → with_ring l (under_way_after l c) (drop 1 x) p ≡ popped_from l x p
 one_from p l x c e = sym (ap (λ (y : List Chunk). popped_from l y p) (first_one x c e))
 
 -- the flags behind a chunk
@@ -62,7 +58,7 @@ flags_after : (e b : Bool) → under_way_of (not e) b ≡ (when e then Idle else
 flags_after true b = refl
 flags_after false b = refl
 
-pub popped_one : (p : Pending) (b : Bool) (c : Chunk) {s : Bool} {x : List Chunk} → s ≡ not c.ending → lane_of b ≡ head_lane p → found (head p) ≡ Found.One c → x ≡ drop 1 (at (lane_of b) p)
+pub popped_one : (p : Pending) (b : Bool) (c : Chunk) {s : Bool} {x : List Chunk} → s ≡ not c.ending → lane_of b ≡ head_lane p → found (head p) ≡ Some c → x ≡ drop 1 (at (lane_of b) p)
     → with_ring (lane_of b) (under_way_of s b) x p ≡ popped p
 popped_one p b c t e q r =
     ap₂ (λ (s : Bool) (y : List Chunk). with_ring (lane_of b) (under_way_of s b) y p) t r
@@ -78,5 +74,5 @@ left_from p l x c e a = ap (λ (y : List Chunk). bytes_in (popped_from l y p) + 
     by Unordered a = omega (arith, ap bytes e, ap bytes a)
     by Ordered a = omega (arith, ap bytes e, ap bytes a)
 
-pub popped_bytes : (p : Pending) (c : Chunk) → found (head p) ≡ Found.One c → bytes_in (popped p) + c.length ≡ bytes_in p
+pub popped_bytes : (p : Pending) (c : Chunk) → found (head p) ≡ Some c → bytes_in (popped p) + c.length ≡ bytes_in p
 popped_bytes p c e = left_from p (head_lane p) (at (head_lane p) p) c (first_one (at (head_lane p) p) c e) refl

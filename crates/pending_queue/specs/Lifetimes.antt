@@ -1,12 +1,9 @@
 -- Lifetimes start from the back of a ring.
-use Rattle.std.specs.Prelude.{◌≡◌, ℕ, ◌+◌, ◌≤◌, Bool, true, false, ◌&&◌, List, [], ◌∷◌, map, nat_le, refl}
+use Rattle.std.specs.Prelude.{◌≡◌, ℕ, ◌+◌, ◌≤◌, Bool, true, false, ◌&&◌, List, [], ◌∷◌, map, nat_le, refl, Some}
 use Rattle.std.proofs.Common.{sym, ap, ap₂, ◌∙◌, arith, leb-true, le-leb}
-use Rattle.limits.specs.declared.Moment.TheVariants.{At}
 use Rattle.model.specs.declared.Chunk.{Chunk}
-use Rattle.model.specs.declared.Lane.{Lane}
-use Rattle.model.specs.declared.Lane.TheVariants.{Unordered, Ordered}
+use Rattle.model.specs.State.{Lane, Unordered, Ordered, Pending, at, in_rings}
 use Rattle.model.specs.Lists.{when◌then◌else◌}
-use Rattle.model.specs.State.{Pending, at, in_rings}
 use Rattle.model.specs.Rings.{started, has_lifetime, renewed, with_message, bytes}
 use Rattle.demands.specs.States.{Ascending}
 use Rattle.rows.specs.Walks.{all, map_end}
@@ -41,7 +38,7 @@ module _ (now k : ℕ) where
       ap₂ (λ (x y : Bool). x && y) (le-leb k c.message.number z) (unseen_all c.message.number l z a.1)
 
   seen_same : (c : Chunk) → unseen k c ≡ false → c ≡ started now k c
-  seen_same c e = sym (ap (λ (b : Bool). with_message (when b && has_lifetime c.message then renewed c.message.ssn (At (now + c.message.reliability.value)) c.message else c.message) c) e)
+  seen_same c e = sym (ap (λ (b : Bool). with_message (when b && has_lifetime c.message then renewed c.message.ssn (Some (now + c.message.reliability.value)) c.message else c.message) c) e)
 
   pub started_all : (n : ℕ) (l : List Chunk) → Ascending n l → started_end now k l ≡ map (started now k) l
   started_all n [] a = refl

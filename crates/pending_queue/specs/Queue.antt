@@ -3,9 +3,7 @@ use Rattle.std.specs.Prelude.{◌≡◌, ℕ, ◌+◌, ◌%◌, ◌^◌, ◌<◌
 use Rattle.std.proofs.Common.{arith}
 use Rattle.limits.specs.Flags.{is_set}
 use Rattle.model.specs.declared.Chunk.{Chunk}
-use Rattle.model.specs.declared.UnderWay.{UnderWay}
-use Rattle.model.specs.declared.UnderWay.TheVariants.{Idle, Sending}
-use Rattle.model.specs.State.{Pending, lane_of}
+use Rattle.model.specs.State.{UnderWay, Idle, Sending, Pending, lane_of}
 use Rattle.model.specs.Lists.{when◌then◌else◌}
 use Rattle.model.specs.Rings.{with_message, renewed, ssn_before, lowered, bytes}
 use Rattle.ring.specs.declared.Ring.{Ring}

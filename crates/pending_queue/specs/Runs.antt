@@ -1,16 +1,12 @@
 -- A message is removed from the front of each ring.
-use Rattle.std.specs.Prelude.{◌≡◌, ℕ, suc, ◌+◌, ◌≤◌, Bool, true, false, not, List, [], ◌∷◌, ◌++◌, map, length, ◌≢◌, refl}
+use Rattle.std.specs.Prelude.{◌≡◌, ℕ, suc, ◌+◌, ◌≤◌, Bool, true, false, not, List, [], ◌∷◌, ◌++◌, map, length, ◌≢◌, refl, Some, None}
 use Rattle.std.proofs.Common.{sym, ap, ap₂, ◌∙◌, arith, eq-eqb, ne_eqb}
+use Rattle.std.specs.Option.{option_or}
 use Rattle.std.proofs.Math.Option.{Option}
 use mathlib.Core.List.{tail-eq_of_cons-eq}
 use Rattle.model.specs.declared.Chunk.{Chunk}
-use Rattle.model.specs.declared.Found.{Found}
-use Rattle.model.specs.declared.Lane.{Lane}
-use Rattle.model.specs.declared.Lane.TheVariants.{Unordered, Ordered}
-use Rattle.model.specs.declared.UnderWay.{UnderWay}
-use Rattle.model.specs.declared.UnderWay.TheVariants.{Idle}
+use Rattle.model.specs.State.{Lane, Unordered, Ordered, UnderWay, Idle, Pending, at, is_of}
 use Rattle.model.specs.Lists.{when◌then◌else◌, keep, last}
-use Rattle.model.specs.State.{Pending, at, is_of}
 use Rattle.model.specs.Rings.{head, pending_of, ended, without, lowered, bytes}
 use Rattle.model.specs.Flight.{found}
 use Rattle.demands.specs.States.{drop_run}
@@ -19,6 +15,7 @@ use Rattle.ring.specs.Held.{held, found_none, found_some}
 use Rattle.ring.specs.Sums.{bytes_append}
 use Rattle.pending_queue.specs.declared.PendingQueue.{PendingQueue}
 use Rattle.pending_queue.specs.Queue.{bytes_in, pending_in, Counted}
+use Rattle.model.specs.Answers.{Found}
 
 -- the leading run of a message in each ring
 abbrev pub runs : (number : ℕ) → Pending → List Chunk
@@ -84,16 +81,16 @@ module _ (n : ℕ) where
 -- ---- what is under way then, as code finds it
 
 module _ (n : ℕ) (w : UnderWay) where
-  pub ended_none : (h : Option Chunk) → found h ≡ Found.Nothing → w ≡ ended n h w
+  pub ended_none : (h : Option Chunk) → found h ≡ None → w ≡ ended n h w
   ended_none h e = sym (ap (λ (o : Option Chunk). ended n o w) (found_none h e))
 
-  ended_by : (h : Option Chunk) (c : Chunk) → found h ≡ Found.One c → (when is_of n c then Idle else w) ≡ ended n h w
+  ended_by : (h : Option Chunk) (c : Chunk) → found h ≡ Some c → (when is_of n c then Idle else w) ≡ ended n h w
   ended_by h c e = sym (ap (λ (o : Option Chunk). ended n o w) (found_some h c e))
 
-  pub ended_one : (h : Option Chunk) (c : Chunk) → found h ≡ Found.One c → c.message.number ≡ n → Idle ≡ ended n h w
+  pub ended_one : (h : Option Chunk) (c : Chunk) → found h ≡ Some c → c.message.number ≡ n → Idle ≡ ended n h w
   ended_one h c e q = sym (ap (λ (b : Bool). when b then Idle else w) (eq-eqb c.message.number n q)) ∙ ended_by h c e
 
-  pub ended_other : (h : Option Chunk) (c : Chunk) → found h ≡ Found.One c → (c.message.number ≢ n) → w ≡ ended n h w
+  pub ended_other : (h : Option Chunk) (c : Chunk) → found h ≡ Some c → (c.message.number ≢ n) → w ≡ ended n h w
   ended_other h c e q = sym (ap (λ (b : Bool). when b then Idle else w) (ne_eqb c.message.number n q)) ∙ ended_by h c e
 
 -- ---- what is left, and its bytes
@@ -118,30 +115,35 @@ runs_bytes n p =
 -- ---- the last of two lists
 
 abbrev pub later_of : Found → Found → Found
-later_of f Found.Nothing = f
-later_of f (Found.One c) = Found.One c
+later_of f None = f
+later_of f (Some c) = Some c
 
-later_none : (f : Found) → later_of Found.Nothing f ≡ f
-later_none Found.Nothing = refl
-later_none (Found.One c) = refl
+-- the second if there is one, else the first
+pub later_is : (f g : Found) → option_or g f ≡ later_of f g
+later_is f None = refl
+later_is f (Some c) = refl
+
+later_none : (f : Found) → later_of None f ≡ f
+later_none None = refl
+later_none (Some c) = refl
 
 later_assoc : (f g h : Found) → later_of f (later_of g h) ≡ later_of (later_of f g) h
-later_assoc f g Found.Nothing = refl
-later_assoc f g (Found.One c) = refl
+later_assoc f g None = refl
+later_assoc f g (Some c) = refl
 
-last_cons : (c : Chunk) (l : List Chunk) → found (last (c ∷ l)) ≡ later_of (Found.One c) (found (last l))
+last_cons : (c : Chunk) (l : List Chunk) → found (last (c ∷ l)) ≡ later_of (Some c) (found (last l))
 last_cons c [] = refl
 last_cons c (d ∷ l) =
-    last_cons d l ∙ by (found (last l)) ∙ ap (later_of (Found.One c)) (sym (last_cons d l))
+    last_cons d l ∙ by (found (last l)) ∙ ap (later_of (Some c)) (sym (last_cons d l))
   where
-    by : (f : Found) → later_of (Found.One d) f ≡ later_of (Found.One c) (later_of (Found.One d) f)
-    by Found.Nothing = refl
-    by (Found.One e) = refl
+    by : (f : Found) → later_of (Some d) f ≡ later_of (Some c) (later_of (Some d) f)
+    by None = refl
+    by (Some e) = refl
 
 pub last_append : (l m : List Chunk) → found (last (l ++ m)) ≡ later_of (found (last l)) (found (last m))
 last_append [] m = sym (later_none (found (last m)))
 last_append (c ∷ l) m =
-    last_cons c (l ++ m) ∙ ap (later_of (Found.One c)) (last_append l m) ∙ later_assoc (Found.One c) (found (last l)) (found (last m))
+    last_cons c (l ++ m) ∙ ap (later_of (Some c)) (last_append l m) ∙ later_assoc (Some c) (found (last l)) (found (last m))
     ∙ ap (λ (f : Found). later_of f (found (last m))) (sym (last_cons c l))
 
 -- ---- a loop that takes a run from the front of l: `m` is what is left, `sum` and `end` the bytes and the last of what was taken
@@ -156,19 +158,19 @@ abbrev pub Taken : (p : Chunk → Bool) (l m : List Chunk) (sum : ℕ) (end : Fo
 Taken p l m sum end = (m ≡ drop_while p l) × (sum ≡ bytes (take_while p l)) × (end ≡ found (last (take_while p l)))
 
 module _ (p : Chunk → Bool) (l : List Chunk) where
-  pub taking_start : Taking p l l 0 Found.Nothing
+  pub taking_start : Taking p l l 0 None
   taking_start = record { rest = refl; taken = omega arith; ends = later_none (found (last (take_while p l))) }
 
   module _ {m : List Chunk} {sum : ℕ} {end : Found} (t : Taking p l m sum end) where
-    pub taking_turn : {x : Chunk} {more m' : List Chunk} → m ≡ x ∷ more → p x ≡ true → m' ≡ more → Taking p l m' (sum + x.length) (Found.One x)
+    pub taking_turn : {x : Chunk} {more m' : List Chunk} → m ≡ x ∷ more → p x ≡ true → m' ≡ more → Taking p l m' (sum + x.length) (Some x)
     taking_turn {x} {more} q h e =
         let k = take_hit p q h in
         record {
           rest = ap (drop_while p) e ∙ sym (drop_hit p q h) ∙ t.rest;
           taken = omega (arith, t.taken, ap bytes k, ap (λ (r : List Chunk). bytes (take_while p r)) e);
           ends =
-              ap (λ (r : List Chunk). later_of (Found.One x) (found (last (take_while p r)))) e
-              ∙ sym (later_assoc end (Found.One x) (found (last (take_while p more))))
+              ap (λ (r : List Chunk). later_of (Some x) (found (last (take_while p r)))) e
+              ∙ sym (later_assoc end (Some x) (found (last (take_while p more))))
               ∙ ap (later_of end) (sym (last_cons x (take_while p more)) ∙ sym (ap (λ (r : List Chunk). found (last r)) k))
               ∙ t.ends;
         }

@@ -5,24 +5,23 @@ ghost use Rattle.ring.specs.Held.{held};
 
 use super::PendingQueue;
 
-pub fn len(queue: PendingQueue, unordered: &[u64], ordered: &[u64]) -> usize
-    ensures { result ≡ length (held queue.unordered unordered.now) + length (held queue.ordered ordered.now) }
-{
-    ring::count(queue.unordered, unordered) + ring::count(queue.ordered, ordered)
-}
-
-// The kept sum of all bytes.
-pub fn bytes(queue: PendingQueue) -> u64
-    ensures { result ≡ queue.bytes }
-{
-    queue.bytes
-}
-
-pub fn contains_stream(queue: PendingQueue, unordered: &[u64], ordered: &[u64], stream: u16) -> bool
-    ensures { result ≡ has_stream stream (held queue.unordered unordered.now ++ held queue.ordered ordered.now) }
-{
-    if ring::parts::has_stream(queue.unordered, unordered, stream) {
-        return true;
+impl PendingQueue {
+    pub fn len(&self, unordered: &[u64], ordered: &[u64]) -> usize
+        ensures { result ≡ length (held self.now.unordered unordered.now) + length (held self.now.ordered ordered.now) }
+    {
+        self.unordered.count(unordered) + self.ordered.count(ordered)
     }
-    ring::parts::has_stream(queue.ordered, ordered, stream)
+
+    // The kept sum of all bytes.
+    pub fn bytes(&self) -> u64
+        ensures { result ≡ self.now.bytes }
+    {
+        self.bytes
+    }
+
+    pub fn contains_stream(&self, unordered: &[u64], ordered: &[u64], stream: u16) -> bool
+        ensures { result ≡ has_stream stream (held self.now.unordered unordered.now ++ held self.now.ordered ordered.now) }
+    {
+        self.unordered.has_stream(unordered, stream) || self.ordered.has_stream(ordered, stream)
+    }
 }

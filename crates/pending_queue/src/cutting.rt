@@ -3,19 +3,13 @@ ghost use Rattle.std.specs.Prelude.{◌≡◌, ◌+◌, ◌-◌, ◌≤◌, true
 ghost use Rattle.model.specs.Messages.{pieces, piece, cut};
 ghost use Rattle.cells.specs.Slots.{room_of};
 ghost use Rattle.ring.specs.Held.{held};
-ghost use Rattle.pending_queue.specs.Fragments.{Adds, size_of, bytes_of, fits};
+ghost use Rattle.model.specs.Lists.{when◌then◌else◌};
+ghost use Rattle.pending_queue.specs.Fragments.{Brings, bytes_of, fits};
+ghost use Rattle.pending_queue.specs.Adding.{Joins};
 
-use limits::Moment;
+use super::PendingQueue;
 use model::{Chunk, Message};
 use ring::Ring;
-
-// The ring with a message's fragments, the bytes that they bring, and whether there was room.
-#[derive(Clone, Copy)]
-pub struct Added {
-    pub ring: Ring,
-    pub bytes: u64,
-    pub done: bool,
-}
 
 // How many there are: none where the maximum is 0.
 pub fn fragments(length: u32, maximum: u16) -> usize
@@ -32,37 +26,26 @@ pub fn fragments(length: u32, maximum: u16) -> usize
 fn fragments_bytes(length: u32, maximum: u16) -> u64
     ensures { result ≡ bytes_of length maximum }
 {
-    if maximum == 0 {
-        return 0;
-    }
-    length as u64
+    if maximum == 0 { 0 } else { length as u64 }
 }
 
-// The bytes of the next one, where k are to come: the last has the rest.
-fn size(k: usize, maximum: u16, left: u32) -> u32
-    ensures { result ≡ size_of k maximum left }
+// The bytes of the next one: the last has the rest.
+fn size(ending: bool, maximum: u16, left: u32) -> u32
+    ensures { result ≡ (when ending then left else maximum) }
 {
-    if k == 1 { left } else { maximum as u32 }
-}
-
-// What is left behind it.
-fn less(left: u32, maximum: u16) -> u32
-    ensures { result ≡ left - maximum }
-{
-    let most = maximum as u32;
-    if left < most { 0 } else { left - most }
+    if ending { left } else { maximum as u32 }
 }
 
 fn fragment(message: Message, beginning: bool, ending: bool, offset: u64, length: u32) -> Chunk
     ensures { result ≡ piece message beginning ending offset length }
 {
     Chunk {
-        message: message,
-        beginning: beginning,
-        ending: ending,
-        offset: offset,
-        length: length,
-        since: Moment::Absent,
+        message,
+        beginning,
+        ending,
+        offset,
+        length,
+        since: None,
         nsent: 0,
         acked: false,
         abandoned: false,
@@ -71,69 +54,75 @@ fn fragment(message: Message, beginning: bool, ending: bool, offset: u64, length
 }
 
 // Whether they are added: all or none.
-fn fitting(ring: Ring, cells: &[u64], maximum: u16, offset: u64, length: u32) -> bool
-    ensures { result ≡ fits (room_of cells.now) maximum offset length (held ring cells.now) }
+fn fitting(ring: &Ring, cells: &[u64], maximum: u16, offset: u64, length: u32) -> bool
+    ensures { result ≡ fits (room_of cells.now) maximum offset length (held ring.now cells.now) }
 {
-    if limits::OFFSET_MAX < offset {
-        return false;
-    }
-    ring::count(ring, cells) + fragments(length, maximum) <= cells::room(cells)
+    offset <= limits::OFFSET_MAX
+        && ring.count(cells) + fragments(length, maximum) <= cells::room(cells)
 }
 
 // Each fragment goes to the end of the ring.
 fn cut_into(
-    ring: Ring,
+    ring: &mut Ring,
     cells: &mut [u64],
     message: Message,
     maximum: u16,
     offset: u64,
     length: u32,
-) -> Ring
-    requires { fits (room_of cells.old) maximum offset length (held ring cells.old) ≡ true }
-    ensures { held result cells.new ≡ held ring cells.old ++ cut message true (pieces length maximum) maximum offset length }
+)
+    requires { fits (room_of cells.old) maximum offset length (held ring.old cells.old) ≡ true }
+    ensures { held ring.new cells.new ≡ held ring.old cells.old ++ cut message true (pieces length maximum) maximum offset length }
 {
-    let mut longer = ring;
-    let mut k = fragments(length, maximum);
     let mut from = offset;
     let mut left = length;
     let mut first = true;
-    while 0 < k {
-        let bytes = size(k, maximum, left);
-        let chunk = fragment(message, first, k == 1, from, bytes);
-        let words = chunk_slot::pack(chunk);
-        let pushed = ring::push(longer, cells, words);
-        longer = pushed.ring;
+    for k in (0..fragments(length, maximum)).rev() {
+        let ending = k == 0;
+        let chunk = fragment(message, first, ending, from, size(ending, maximum, left));
+        ring.push(cells, chunk_slot::pack(chunk));
         from += maximum as u64;
-        left = less(left, maximum);
+        left = left.saturating_sub(maximum as u32);
         first = false;
-        k -= 1;
     }
-    longer
 }
 
-// A message's fragments join the back of a ring. Where there is no room for all of them, or the offset is beyond its limit, nothing
-// changes: the caller has refused such a message before.
+// A message's fragments join the back of a ring, and the answer is the bytes that they bring. Where there is no room for all of them, or
+// the offset is beyond its limit, nothing changes: the caller has refused such a message before.
 pub fn push_fragments(
-    ring: Ring,
+    ring: &mut Ring,
     cells: &mut [u64],
     message: Message,
     maximum: u16,
     offset: u64,
     length: u32,
-) -> Added
-    ensures { Adds (room_of cells.old) message maximum offset length (held ring cells.old) (held result.ring cells.new) result.bytes result.done }
+) -> Option<u64>
+    ensures { Brings (room_of cells.old) message maximum offset length (held ring.old cells.old) (held ring.new cells.new) result }
 {
     if !fitting(ring, cells, maximum, offset, length) {
-        return Added {
-            ring: ring,
-            bytes: 0,
-            done: false,
-        };
+        return None;
     }
-    let longer = cut_into(ring, cells, message, maximum, offset, length);
-    Added {
-        ring: longer,
-        bytes: fragments_bytes(length, maximum),
-        done: true,
+    cut_into(ring, cells, message, maximum, offset, length);
+    Some(fragments_bytes(length, maximum))
+}
+
+impl PendingQueue {
+    // A message's fragments join the back of its ring, whose cells are lent: all or none, and the answer is whether they do.
+    pub fn add_fragments(
+        &mut self,
+        cells: &mut [u64],
+        message: Message,
+        maximum: u16,
+        offset: u64,
+        length: u32,
+    ) -> bool
+        ensures { Joins message maximum offset length self.old cells.old self.new cells.new result }
+    {
+        let added = if message.unordered {
+            push_fragments(&mut self.unordered, cells, message, maximum, offset, length)
+        } else {
+            push_fragments(&mut self.ordered, cells, message, maximum, offset, length)
+        };
+        self.bytes = self.bytes.wrapping_add(added.unwrap_or(0));
+        added.is_some()
     }
 }

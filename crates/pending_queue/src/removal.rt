@@ -3,121 +3,74 @@ ghost use Rattle.std.specs.Prelude.{◌≡◌};
 ghost use Rattle.limits.specs.Flags.{is_set};
 ghost use Rattle.ring.specs.Held.{held};
 ghost use Rattle.pending_queue.specs.Queue.{under_way_of, pending_in};
-ghost use Rattle.pending_queue.specs.Runs.{Removes, LeadingRun, ClosesGap, later_of, without_runs};
+ghost use Rattle.pending_queue.specs.Runs.{Removes, LeadingRun, ClosesGap, without_runs};
 
 use super::PendingQueue;
-use model::Found;
+use model::Chunk;
 use ring::Ring;
 
 // `bytes` is what the removed chunks held, and `last` the last of them.
 #[derive(Clone, Copy)]
 pub struct Removed {
-    pub queue: PendingQueue,
     pub bytes: u64,
-    pub last: Found,
-}
-
-#[derive(Clone, Copy)]
-struct Run {
-    ring: Ring,
-    bytes: u64,
-    last: Found,
+    pub last: Option<Chunk>,
 }
 
 // The leading run of a message leaves a ring.
-fn remove_run(ring: Ring, cells: &[u64], number: u64) -> Run
-    ensures { LeadingRun number (held ring cells.now) (held result.ring cells.now) result.bytes result.last }
+fn remove_run(ring: &mut Ring, cells: &[u64], number: u64) -> Removed
+    ensures { LeadingRun number (held ring.old cells.now) (held ring.new cells.now) result.bytes result.last }
 {
-    let mut rest = ring;
-    let mut n = ring::count(ring, cells);
     let mut bytes: u64 = 0;
-    let mut last = Found::Nothing;
-    while 0 < n {
-        let chunk = ring::nth(rest, cells, 0);
+    let mut last = None;
+    for _ in 0..ring.count(cells) {
+        let chunk = ring.nth(cells, 0);
         if chunk.message.number != number {
-            return Run {
-                ring: rest,
-                bytes: bytes,
-                last: last,
-            };
+            return Removed { bytes, last };
         }
         bytes += chunk.length as u64;
-        last = Found::One(chunk);
-        rest = ring::shorter(rest, cells);
-        n -= 1;
+        last = Some(chunk);
+        ring.drop_first(cells);
     }
-    Run {
-        ring: rest,
-        bytes: bytes,
-        last: last,
-    }
+    Removed { bytes, last }
 }
 
-// The second if there is one, else the first.
-fn later(first: Found, second: Found) -> Found
-    ensures { result ≡ later_of first second }
-{
-    let Found::One(chunk) = second else {
-        return first;
-    };
-    Found::One(chunk)
-}
-
-// Whether a message is still under way without this one.
-fn still_selected(queue: PendingQueue, unordered: &[u64], ordered: &[u64], number: u64) -> u8
-    ensures { under_way_of (is_set result) (is_set queue.unordered_is_selected) ≡ (without_runs number (pending_in queue unordered.now ordered.now)).under_way }
-{
-    let front = super::peek(queue, unordered, ordered);
-    let Found::One(chunk) = front else {
-        return queue.selected;
-    };
-    if chunk.message.number == number {
-        return 0;
+impl PendingQueue {
+    // Whether a message is still under way without this one.
+    fn still_selected(&self, unordered: &[u64], ordered: &[u64], number: u64) -> u8
+        ensures { under_way_of (is_set result) (is_set self.now.unordered_is_selected) ≡ (without_runs number (pending_in self.now unordered.now ordered.now)).under_way }
+    {
+        let Some(chunk) = self.peek(unordered, ordered) else {
+            return self.selected;
+        };
+        if chunk.message.number == number {
+            0
+        } else {
+            self.selected
+        }
     }
-    queue.selected
-}
 
-// Removes the leading run of a message from each ring. In every state that calls reach, a message at the head or in flight has no other
-// chunks pending.
-pub fn remove_message(
-    queue: PendingQueue,
-    unordered: &[u64],
-    ordered: &[u64],
-    number: u64,
-) -> Removed
-    ensures { Removes number queue unordered.now ordered.now result.queue result.bytes result.last }
-{
-    let selected = still_selected(queue, unordered, ordered, number);
-    let one = remove_run(queue.ordered, ordered, number);
-    let other = remove_run(queue.unordered, unordered, number);
-    let ordered_ring = one.ring;
-    let unordered_ring = other.ring;
-    let one_last = one.last;
-    let other_last = other.last;
-    let removed = one.bytes + other.bytes;
-    let last = later(one_last, other_last);
-    Removed {
-        queue: PendingQueue {
-            unordered: unordered_ring,
-            ordered: ordered_ring,
-            bytes: std::num::wrapping_sub_u64(queue.bytes, removed),
-            selected: selected,
-            unordered_is_selected: queue.unordered_is_selected,
-        },
-        bytes: removed,
-        last: last,
+    // Removes the leading run of a message from each ring. In every state that calls reach, a message at the head or in flight has no other
+    // chunks pending.
+    pub fn remove_message(&mut self, unordered: &[u64], ordered: &[u64], number: u64) -> Removed
+        ensures { Removes number self.old unordered.now ordered.now self.new result.bytes result.last }
+    {
+        self.selected = self.still_selected(unordered, ordered, number);
+        let one = remove_run(&mut self.ordered, ordered, number);
+        let other = remove_run(&mut self.unordered, unordered, number);
+        let bytes = one.bytes + other.bytes;
+        self.bytes = self.bytes.wrapping_sub(bytes);
+        Removed {
+            bytes,
+            last: other.last.or(one.last),
+        }
     }
-}
 
-// Closes the gap in a stream's SSNs behind an ordered message that leaves wholly unsent.
-pub fn compact_ordered_ssns(queue: PendingQueue, ordered: &mut [u64], stream: u16)
-    ensures { ClosesGap stream queue ordered.old ordered.new }
-{
-    let ring = queue.ordered;
-    let n = ring::count(ring, ordered);
-    let mut i = 0;
-    while i < n {
-        ring::parts::lower_nth(ring, ordered, i, stream);
-        i += 1;
+    // Closes the gap in a stream's SSNs behind an ordered message that leaves wholly unsent.
+    pub fn compact_ordered_ssns(&self, ordered: &mut [u64], stream: u16)
+        ensures { ClosesGap stream self.now ordered.old ordered.new }
+    {
+        for i in 0..self.ordered.count(ordered) {
+            self.ordered.lower_nth(ordered, i, stream);
+        }
     }
 }

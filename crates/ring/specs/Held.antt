@@ -1,11 +1,10 @@
 -- What a ring in lent cells holds, and what its calls do to that list. In the laws `k` is the slot that the code has computed, and `vs`
 -- are the words after a change of that slot.
-use Rattle.std.specs.Prelude.{◌≡◌, refl, Bool, ◌||◌, List, [], ◌∷◌, ◌++◌, ℕ, zero, suc, ◌+◌, ◌-◌, ◌%◌, ◌≤◌, ◌<◌, min, length, get_or, set, drop, eqb}
+use Rattle.std.specs.Prelude.{◌≡◌, refl, Bool, ◌||◌, List, [], ◌∷◌, ◌++◌, ℕ, zero, suc, ◌+◌, ◌-◌, ◌%◌, ◌≤◌, ◌<◌, min, length, get_or, set, drop, eqb, Some, None}
 use Rattle.std.proofs.Common.{sym, ap, ◌∙◌, mod-lt, not-suc-le-zero, le_of_suc-le-suc, arith}
 use Rattle.std.proofs.Math.Option.{Option, none, some}
 use Rattle.std.proofs.Math.ListN.{get_elem?}
 use Rattle.model.specs.declared.Chunk.{Chunk}
-use Rattle.model.specs.declared.Found.{Found}
 use Rattle.model.specs.Lists.{first, adjust}
 use Rattle.model.specs.Flight.{found, has_stream}
 use Rattle.rows.specs.Parts.{part}
@@ -75,12 +74,12 @@ held_drop r ws n s k e q h = round_drop (room_of ws) r.start r.len (chunks ws) (
 
 -- ---- the cases of each
 
-pub get_in : (l : List Chunk) (i : ℕ) → i < length l → Found.One (get_or l i blank_chunk) ≡ found (get_elem? l i)
+pub get_in : (l : List Chunk) (i : ℕ) → i < length l → Some (get_or l i blank_chunk) ≡ found (get_elem? l i)
 get_in [] i h = absurd (not-suc-le-zero h)
 get_in (x ∷ l) zero h = refl
 get_in (x ∷ l) (suc i) h = get_in l i (le_of_suc-le-suc h)
 
-pub get_out : (l : List Chunk) (i : ℕ) → length l ≤ i → Found.Nothing ≡ found (get_elem? l i)
+pub get_out : (l : List Chunk) (i : ℕ) → length l ≤ i → None ≡ found (get_elem? l i)
 get_out [] i h = refl
 get_out (x ∷ l) zero h = absurd (not-suc-le-zero h)
 get_out (x ∷ l) (suc i) h = get_out l i (le_of_suc-le-suc h)
@@ -90,29 +89,29 @@ get_first [] = refl
 get_first (x ∷ l) = refl
 
 -- where there is a first, it is in the slot of the start
-pub first_at : (r : Ring) (ws : List ℕ) (s : ℕ) → s ≡ r.start % room_of ws → 0 < length (held r ws) → Found.One (get_or (chunks ws) s blank_chunk) ≡ found (first (held r ws))
+pub first_at : (r : Ring) (ws : List ℕ) (s : ℕ) → s ≡ r.start % room_of ws → 0 < length (held r ws) → Some (get_or (chunks ws) s blank_chunk) ≡ found (first (held r ws))
 first_at r ws s e h =
     let n : 0 < min r.len (room_of ws) = omega (arith, length_held r ws) in
     let z : 0 < room_of ws = omega arith in
     let l : s + 0 < room_of ws = omega (arith, mod-lt r.start z) in
     let k : s ≡ s + 0 = omega arith in
-    ap Found.One (held_get r ws 0 s (k ∙ cell_low (room_of ws) r.start r.len 0 s e n l)) ∙ get_in (held r ws) 0 h ∙ get_first (held r ws)
+    ap Some (held_get r ws 0 s (k ∙ cell_low (room_of ws) r.start r.len 0 s e n l)) ∙ get_in (held r ws) 0 h ∙ get_first (held r ws)
 
 -- ---- what an answer says of what is there
 
-pub found_none : (o : Option Chunk) → found o ≡ Found.Nothing → o ≡ none
+pub found_none : (o : Option Chunk) → found o ≡ None → o ≡ none
 found_none none e = refl
 found_none (some d) e = let z : ◌≡◌ {A = ℕ} 0 1 = cc in absurd (omega arith)
 
-pub found_some : (o : Option Chunk) (c : Chunk) → found o ≡ Found.One c → o ≡ some c
+pub found_some : (o : Option Chunk) (c : Chunk) → found o ≡ Some c → o ≡ some c
 found_some none c e = let z : ◌≡◌ {A = ℕ} 0 1 = cc in absurd (omega arith)
 found_some (some d) c e = let q : d ≡ c = cc in ap some q
 
 -- and of a list
-pub first_none : (l : List Chunk) → found (first l) ≡ Found.Nothing → l ≡ []
+pub first_none : (l : List Chunk) → found (first l) ≡ None → l ≡ []
 first_none [] e = refl
 first_none (x ∷ l) e = let z : ◌≡◌ {A = ℕ} 0 1 = cc in absurd (omega arith)
 
-pub first_one : (l : List Chunk) (c : Chunk) → found (first l) ≡ Found.One c → l ≡ c ∷ drop 1 l
+pub first_one : (l : List Chunk) (c : Chunk) → found (first l) ≡ Some c → l ≡ c ∷ drop 1 l
 first_one [] c e = let z : ◌≡◌ {A = ℕ} 0 1 = cc in absurd (omega arith)
 first_one (x ∷ l) c e = let q : x ≡ c = cc in ap (λ (y : Chunk). y ∷ l) q

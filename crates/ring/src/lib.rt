@@ -1,6 +1,6 @@
-// A ring of chunks in lent cells. The two numbers go by value, the cells are a slice of words that the caller lends, and its length is
+// A ring of chunks in lent cells. The two numbers are a value with methods, the cells are a slice of words that the caller lends, and its length is
 // the ring's room. What a ring holds is the list `held`, for every value of the two numbers, so no call asks anything of its caller.
-// A caller's proof goes by that list: `count` is its length, `nth` its element, `push` its `++`, `shorter` its `drop 1`, `shorter_by` its `drop`.
+// A caller's proof goes by that list: `count` is its length, `nth` its element, `push` its `++`, `drop_first` its `drop 1`, `drop_front` its `drop`.
 #![tactic(auto)]
 
 pub mod parts;
@@ -15,23 +15,15 @@ ghost use Rattle.chunk_slot.specs.Meaning.{chunk_for, found_for};
 ghost use Rattle.rows.specs.Joins.{pushed};
 ghost use Rattle.ring.specs.Held.{slot_of, held};
 
-use chunk_slot::{FoundWords, Words};
-use model::{Chunk, Found};
+use chunk_slot::Words;
+use model::Chunk;
 
 #[repr(C)]
-#[derive(Clone, Copy)]
+#[derive(Clone, Copy, Default)]
 pub struct Ring {
     pub start: usize,
     pub len: usize,
 }
-
-#[derive(Clone, Copy)]
-pub struct Pushed {
-    pub ring: Ring,
-    pub done: bool,
-}
-
-// ---- positions
 
 // The start, brought below the room; a division only where it is not there already.
 fn fold(start: usize, room: usize) -> usize
@@ -41,136 +33,109 @@ fn fold(start: usize, room: usize) -> usize
     if start < room { start } else { start % room }
 }
 
-// The slot of the i-th chunk; past the end the room, where a load is blank and a store nothing.
-pub fn slot(ring: Ring, cells: &[u64], i: usize) -> usize
-    ensures { result ≡ slot_of ring cells.now i }
-{
-    let room = cells::room(cells);
-    if room <= i {
-        return room;
-    }
-    if ring.len <= i {
-        return room;
-    }
-    let start = fold(ring.start, room);
-    let behind = room - start;
-    if i < behind {
-        return start + i;
-    }
-    i - behind
-}
+impl Ring {
+    // ---- positions
 
-// How many there are: a length beyond the room reads as the room.
-pub fn count(ring: Ring, cells: &[u64]) -> usize
-    ensures { result ≡ length (held ring cells.now) }
-{
-    let room = cells::room(cells);
-    let len = ring.len;
-    if len < room { len } else { room }
-}
-
-// ---- whole chunks
-
-// The i-th chunk, counted from 0, and a blank one past the end.
-pub fn nth(ring: Ring, cells: &[u64], i: usize) -> Chunk
-    ensures { result ≡ get_or (held ring cells.now) i blank_chunk }
-{
-    let at = slot(ring, cells, i);
-    chunk_slot::load(cells, at)
-}
-
-// The i-th chunk is replaced by that of the words, where there is one.
-fn put(ring: Ring, cells: &mut [u64], i: usize, words: Words)
-    ensures { held ring cells.new ≡ set (held ring cells.old) i (chunk_for words) }
-{
-    let at = slot(ring, cells, i);
-    chunk_slot::write(cells, at, words);
-}
-
-// One more at the end, where there is room: the chunk of the words.
-pub fn push(ring: Ring, cells: &mut [u64], words: Words) -> Pushed
-    ensures { (held result.ring cells.new ≡ pushed (room_of cells.old) (held ring cells.old) (chunk_for words)) × (result.done ≡ ltb (length (held ring cells.old)) (room_of cells.old)) }
-{
-    let len = ring.len;
-    if cells::room(cells) <= len {
-        return Pushed {
-            ring: ring,
-            done: false,
-        };
+    // The slot of the i-th chunk; past the end the room, where a load is blank and a store nothing.
+    pub fn slot(&self, cells: &[u64], i: usize) -> usize
+        ensures { result ≡ slot_of self.now cells.now i }
+    {
+        let room = cells::room(cells);
+        if self.count(cells) <= i {
+            return room;
+        }
+        let start = fold(self.start, room);
+        let behind = room - start;
+        if i < behind { start + i } else { i - behind }
     }
-    let more = len + 1;
-    let longer = Ring {
-        start: ring.start,
-        len: more,
-    };
-    put(longer, cells, len, words);
-    Pushed {
-        ring: longer,
-        done: true,
-    }
-}
 
-// The ring without its first chunk.
-pub fn shorter(ring: Ring, cells: &[u64]) -> Ring
-    ensures { held result cells.now ≡ drop 1 (held ring cells.now) }
-{
-    let n = count(ring, cells);
-    if n == 0 {
-        return ring;
+    // How many there are: a length beyond the room reads as the room.
+    pub fn count(&self, cells: &[u64]) -> usize
+        ensures { result ≡ length (held self.now cells.now) }
+    {
+        self.len.min(cells::room(cells))
     }
-    let start = fold(ring.start, cells::room(cells));
-    Ring {
-        start: start + 1,
-        len: n - 1,
-    }
-}
 
-// The ring without its first k chunks.
-pub fn shorter_by(ring: Ring, cells: &[u64], k: usize) -> Ring
-    ensures { held result cells.now ≡ drop k (held ring cells.now) }
-{
-    let n = count(ring, cells);
-    if n <= k {
-        return Ring { start: 0, len: 0 };
-    }
-    let start = fold(ring.start, cells::room(cells));
-    Ring {
-        start: start + k,
-        len: n - k,
-    }
-}
+    // ---- whole chunks
 
-// The i-th chunk, or nothing.
-pub fn get(ring: Ring, cells: &[u64], i: usize) -> Found
-    ensures { result ≡ found (get_elem? (held ring cells.now) i) }
-{
-    if count(ring, cells) <= i {
-        return Found::Nothing;
+    // The i-th chunk, counted from 0, and a blank one past the end.
+    pub fn nth(&self, cells: &[u64], i: usize) -> Chunk
+        ensures { result ≡ get_or (held self.now cells.now) i blank_chunk }
+    {
+        chunk_slot::load(cells, self.slot(cells, i))
     }
-    let chunk = nth(ring, cells, i);
-    Found::One(chunk)
-}
 
-// The words of the first chunk, or nothing.
-pub fn front(ring: Ring, cells: &[u64]) -> FoundWords
-    ensures { found_for result ≡ found (first (held ring cells.now)) }
-{
-    if count(ring, cells) == 0 {
-        return FoundWords::Nothing;
+    // The i-th chunk is replaced by that of the words, where there is one.
+    fn put(&self, cells: &mut [u64], i: usize, words: Words)
+        ensures { held self.now cells.new ≡ set (held self.now cells.old) i (chunk_for words) }
+    {
+        let at = self.slot(cells, i);
+        chunk_slot::write(cells, at, words);
     }
-    let start = fold(ring.start, cells::room(cells));
-    let words = chunk_slot::read(cells, start);
-    FoundWords::One(words)
-}
 
-// The first chunk, or nothing.
-pub fn peek(ring: Ring, cells: &[u64]) -> Found
-    ensures { result ≡ found (first (held ring cells.now)) }
-{
-    let first = front(ring, cells);
-    let FoundWords::One(words) = first else {
-        return Found::Nothing;
-    };
-    let chunk = chunk_slot::unpack(words);
-    Found::One(chunk)
+    // One more at the end, the chunk of the words, and whether there was room for it.
+    pub fn push(&mut self, cells: &mut [u64], words: Words) -> bool
+        ensures { (held self.new cells.new ≡ pushed (room_of cells.old) (held self.old cells.old) (chunk_for words)) × (result ≡ ltb (length (held self.old cells.old)) (room_of cells.old)) }
+    {
+        let last = self.len;
+        if cells::room(cells) <= last {
+            return false;
+        }
+        self.len += 1;
+        self.put(cells, last, words);
+        true
+    }
+
+    // The first chunk goes.
+    pub fn drop_first(&mut self, cells: &[u64])
+        ensures { held self.new cells.now ≡ drop 1 (held self.old cells.now) }
+    {
+        let n = self.count(cells);
+        if 0 < n {
+            self.start = fold(self.start, cells::room(cells)) + 1;
+            self.len = n - 1;
+        }
+    }
+
+    // The first k chunks go.
+    pub fn drop_front(&mut self, cells: &[u64], k: usize)
+        ensures { held self.new cells.now ≡ drop k (held self.old cells.now) }
+    {
+        let n = self.count(cells);
+        if n <= k {
+            *self = Ring::default();
+        } else {
+            self.start = fold(self.start, cells::room(cells)) + k;
+            self.len = n - k;
+        }
+    }
+
+    // The i-th chunk, or nothing.
+    pub fn get(&self, cells: &[u64], i: usize) -> Option<Chunk>
+        ensures { result ≡ found (get_elem? (held self.now cells.now) i) }
+    {
+        if i < self.count(cells) {
+            Some(self.nth(cells, i))
+        } else {
+            None
+        }
+    }
+
+    // The words of the first chunk, or nothing.
+    pub fn front(&self, cells: &[u64]) -> Option<Words>
+        ensures { found_for result ≡ found (first (held self.now cells.now)) }
+    {
+        if self.count(cells) == 0 {
+            return None;
+        }
+        let start = fold(self.start, cells::room(cells));
+        Some(chunk_slot::read(cells, start))
+    }
+
+    // The first chunk, or nothing.
+    pub fn peek(&self, cells: &[u64]) -> Option<Chunk>
+        ensures { result ≡ found (first (held self.now cells.now)) }
+    {
+        self.front(cells).map(chunk_slot::unpack)
+    }
 }

@@ -14,37 +14,15 @@ ghost use Rattle.ring.specs.Streams.{Adds};
 
 use super::Ring;
 
-// The message number of the i-th, and 0 past the end.
-pub fn nth_number(ring: Ring, cells: &[u64], i: usize) -> u64
-    ensures { result ≡ (get_or (held ring cells.now) i blank_chunk).message.number }
-{
-    let at = super::slot(ring, cells, i);
-    chunk_slot::parts::number_at(cells, at)
-}
-
-// The bytes that the i-th holds, and 0 past the end.
-pub fn nth_length(ring: Ring, cells: &[u64], i: usize) -> u32
-    ensures { result ≡ (get_or (held ring cells.now) i blank_chunk).length }
-{
-    let at = super::slot(ring, cells, i);
-    chunk_slot::parts::length_at(cells, at)
-}
-
 // Whether one of the four slots from `at` on is of the stream.
 fn among_four(cells: &[u64], at: usize, stream: u16) -> bool
     requires { at + 4 ≤ room_of cells.now }
     ensures { Adds stream at (at + 4) (chunks cells.now) result }
 {
-    if chunk_slot::parts::stream_at(cells, at) == stream {
-        return true;
-    }
-    if chunk_slot::parts::stream_at(cells, at + 1) == stream {
-        return true;
-    }
-    if chunk_slot::parts::stream_at(cells, at + 2) == stream {
-        return true;
-    }
-    chunk_slot::parts::stream_at(cells, at + 3) == stream
+    chunk_slot::parts::stream_at(cells, at) == stream
+        || chunk_slot::parts::stream_at(cells, at + 1) == stream
+        || chunk_slot::parts::stream_at(cells, at + 2) == stream
+        || chunk_slot::parts::stream_at(cells, at + 3) == stream
 }
 
 // Whether some slot from `from` on and before `to` is of the stream, one by one; past the room there is none. The end is brought down to the room,
@@ -53,13 +31,10 @@ fn among_each(cells: &[u64], from: usize, to: usize, stream: u16) -> bool
     ensures { result ≡ has_stream stream (part from to (chunks cells.now)) }
 {
     let room = cells::room(cells);
-    let end = if to < room { to } else { room };
-    let mut at = from;
-    while at < end {
+    for at in from..to.min(room) {
         if chunk_slot::parts::stream_at(cells, at) == stream {
             return true;
         }
-        at += 1;
     }
     false
 }
@@ -69,10 +44,11 @@ fn among(cells: &[u64], from: usize, to: usize, stream: u16) -> bool
     ensures { result ≡ has_stream stream (part from to (chunks cells.now)) }
 {
     let room = cells::room(cells);
-    let end = if to < room { to } else { room };
+    let end = to.min(room);
     if end <= from {
         return false;
     }
+    // By hand: where the fours end, the rest begins.
     let mut at = from;
     while at + 4 <= end {
         if among_four(cells, at, stream) {
@@ -83,62 +59,74 @@ fn among(cells: &[u64], from: usize, to: usize, stream: u16) -> bool
     among_each(cells, at, to, stream)
 }
 
-// Whether some chunk is of the stream: among the slots from the start on, or past the seam, from slot 0 on.
-pub fn has_stream(ring: Ring, cells: &[u64], stream: u16) -> bool
-    ensures { result ≡ has_stream stream (held ring cells.now) }
-{
-    let n = super::count(ring, cells);
-    if n == 0 {
-        return false;
+impl Ring {
+    // The message number of the i-th, and 0 past the end.
+    pub fn nth_number(&self, cells: &[u64], i: usize) -> u64
+        ensures { result ≡ (get_or (held self.now cells.now) i blank_chunk).message.number }
+    {
+        let at = self.slot(cells, i);
+        chunk_slot::parts::number_at(cells, at)
     }
-    let room = cells::room(cells);
-    let start = super::fold(ring.start, room);
-    let behind = room - start;
-    if among(cells, start, start + n, stream) {
-        return true;
+
+    // The bytes that the i-th holds, and 0 past the end.
+    pub fn nth_length(&self, cells: &[u64], i: usize) -> u32
+        ensures { result ≡ (get_or (held self.now cells.now) i blank_chunk).length }
+    {
+        let at = self.slot(cells, i);
+        chunk_slot::parts::length_at(cells, at)
     }
-    if n <= behind {
-        return false;
+
+    // Whether some chunk is of the stream: among the slots from the start on, or past the seam, from slot 0 on.
+    pub fn has_stream(&self, cells: &[u64], stream: u16) -> bool
+        ensures { result ≡ has_stream stream (held self.now cells.now) }
+    {
+        let n = self.count(cells);
+        if n == 0 {
+            return false;
+        }
+        let room = cells::room(cells);
+        let start = super::fold(self.start, room);
+        let behind = room - start;
+        among(cells, start, start + n, stream) || behind < n && among(cells, 0, n - behind, stream)
     }
-    among(cells, 0, n - behind, stream)
-}
 
-// The i-th is to be retransmitted, if it is neither acknowledged nor abandoned.
-pub fn mark_nth(ring: Ring, cells: &mut [u64], i: usize)
-    ensures { held ring cells.new ≡ adjust to_retransmit i (held ring cells.old) }
-{
-    let at = super::slot(ring, cells, i);
-    chunk_slot::parts::mark_at(cells, at);
-}
+    // The i-th is to be retransmitted, if it is neither acknowledged nor abandoned.
+    pub fn mark_nth(&self, cells: &mut [u64], i: usize)
+        ensures { held self.now cells.new ≡ adjust to_retransmit i (held self.now cells.old) }
+    {
+        let at = self.slot(cells, i);
+        chunk_slot::parts::mark_at(cells, at);
+    }
 
-// The i-th is acknowledged, and holds nothing from then on; the answer is the bytes that it held, and 0 past the end.
-pub fn acknowledge_nth(ring: Ring, cells: &mut [u64], i: usize) -> u32
-    ensures { (result ≡ (get_or (held ring cells.old) i blank_chunk).length) × (held ring cells.new ≡ adjust acknowledged i (held ring cells.old)) }
-{
-    let at = super::slot(ring, cells, i);
-    chunk_slot::parts::acknowledge_at(cells, at)
-}
+    // The i-th is acknowledged, and holds nothing from then on; the answer is the bytes that it held, and 0 past the end.
+    pub fn acknowledge_nth(&self, cells: &mut [u64], i: usize) -> u32
+        ensures { (result ≡ (get_or (held self.now cells.old) i blank_chunk).length) × (held self.now cells.new ≡ adjust acknowledged i (held self.now cells.old)) }
+    {
+        let at = self.slot(cells, i);
+        chunk_slot::parts::acknowledge_at(cells, at)
+    }
 
-// The i-th is given up, if it is of the message; the answer is the bytes that it held of it.
-pub fn give_up_nth(ring: Ring, cells: &mut [u64], i: usize, number: u64) -> u32
-    ensures { (result ≡ held_of number (get_or (held ring cells.old) i blank_chunk)) × (held ring cells.new ≡ adjust (given_up number) i (held ring cells.old)) }
-{
-    let at = super::slot(ring, cells, i);
-    chunk_slot::parts::give_up_at(cells, at, number)
-}
+    // The i-th is given up, if it is of the message; the answer is the bytes that it held of it.
+    pub fn give_up_nth(&self, cells: &mut [u64], i: usize, number: u64) -> u32
+        ensures { (result ≡ held_of number (get_or (held self.now cells.old) i blank_chunk)) × (held self.now cells.new ≡ adjust (given_up number) i (held self.now cells.old)) }
+    {
+        let at = self.slot(cells, i);
+        chunk_slot::parts::give_up_at(cells, at, number)
+    }
 
-// The SSN of the i-th drops by 1 modulo 2^16, if it is of the stream.
-pub fn lower_nth(ring: Ring, cells: &mut [u64], i: usize, stream: u16)
-    ensures { held ring cells.new ≡ adjust (lowered stream) i (held ring cells.old) }
-{
-    let at = super::slot(ring, cells, i);
-    chunk_slot::parts::lower_at(cells, at, stream);
-}
+    // The SSN of the i-th drops by 1 modulo 2^16, if it is of the stream.
+    pub fn lower_nth(&self, cells: &mut [u64], i: usize, stream: u16)
+        ensures { held self.now cells.new ≡ adjust (lowered stream) i (held self.now cells.old) }
+    {
+        let at = self.slot(cells, i);
+        chunk_slot::parts::lower_at(cells, at, stream);
+    }
 
-// The lifetime of the i-th starts, if its message has one and is not yet seen. A clock beyond its limit is taken as the limit.
-pub fn start_nth(ring: Ring, cells: &mut [u64], i: usize, clock: u64, unstarted: u64)
-    ensures { held ring cells.new ≡ adjust (started (min clock clock_max) unstarted) i (held ring cells.old) }
-{
-    let at = super::slot(ring, cells, i);
-    chunk_slot::parts::start_at(cells, at, clock, unstarted);
+    // The lifetime of the i-th starts, if its message has one and is not yet seen. A clock beyond its limit is taken as the limit.
+    pub fn start_nth(&self, cells: &mut [u64], i: usize, clock: u64, unstarted: u64)
+        ensures { held self.now cells.new ≡ adjust (started (min clock clock_max) unstarted) i (held self.now cells.old) }
+    {
+        let at = self.slot(cells, i);
+        chunk_slot::parts::start_at(cells, at, clock, unstarted);
+    }
 }

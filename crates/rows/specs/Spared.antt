@@ -1,9 +1,9 @@
--- A refusal changes nothing, of the words as well. `h` is what a call is given by value, and `ws` are the words that are lent to it; `h'` and
+-- A refusal changes nothing, of the words as well. `h` is the head that a call is lent, and `ws` are the words; `h'` and
 -- `ws'` are those behind the call.
 use Rattle.std.specs.Prelude.{◌≡◌, List, ℕ}
 use Rattle.limits.specs.Refusals.{done}
 
--- what is given by value and every word are as they were
+-- the head and every word are as they were
 abbrev pub Stays : {H : Type 0} → H → List ℕ → H → List ℕ → Type 0
 Stays h ws h' ws' = (h' ≡ h) × (ws' ≡ ws)
 

@@ -1,9 +1,9 @@
 -- floor(4 x) of a float x from 1/16 to 2 ^ 32, from its bits: above the 52 digits that they end with stands an exponent from 1019 to 1055, and the digits with the leading one, shifted down
 -- by 1073 less that, are the floor. For 4 x is a float as it is, and x is a whole number of units 1 / 2 ^ 1074. Assumes nothing.
-use Rattle.std.proofs.Common.{◌≡◌, ℕ, zero, suc, ◌+◌, ◌-◌, ◌*◌, ◌/◌, ◌%◌, ◌^◌, ◌<◌, ◌≤◌, min, Bool, true, false, not, ◌&&◌, T, eqb, ltb, leb, ℤ, pos, negsuc, sym, refl, ap, ◌∙◌, subst, true≢false, le_trans, le_of_eq, lt_of_lt_of_le, le_of_suc-le-suc, lt_of_le_of_lt, lt_irrefl, mul-le-mul_right, zero-lt-suc, mul_assoc, mul_comm, div-lt_iff_lt-mul, mul-le-mul_left, mul-lt-mul_of_pos_right, mul-pos, one-mul, lt_of_not-le, le-div_iff_mul-le, zero-mul, mul-one, mul_right_comm, not-le_of_lt, mul_left_comm, arith, lit<, lit≤, ltb→lt, leb→le, pow_pos, pow_mono, pow-add, shr-shr}
+use Rattle.std.proofs.Common.{◌≡◌, ℕ, zero, suc, ◌+◌, ◌-◌, ◌*◌, ◌/◌, ◌%◌, ◌^◌, ◌<◌, ◌≤◌, min, Bool, true, false, ◌&&◌, T, eqb, ltb, leb, ℤ, pos, negsuc, sym, refl, ap, ◌∙◌, subst, true≢false, le_trans, le_of_eq, lt_of_lt_of_le, le_of_suc-le-suc, lt_of_le_of_lt, lt_irrefl, mul-le-mul_right, zero-lt-suc, mul_assoc, mul_comm, div-lt_iff_lt-mul, mul-le-mul_left, mul-lt-mul_of_pos_right, mul-pos, one-mul, lt_of_not-le, le-div_iff_mul-le, zero-mul, mul-one, mul_right_comm, not-le_of_lt, mul_left_comm, arith, lit<, lit≤, ltb→lt, leb→le, pow_pos, pow_mono, pow-add, shr-shr}
 use native.Mathlib.Nat.{mul-mul-mul_comm, div-div-eq-div-mul}
 use lib.Pow.{pow-lt, high, low}
-use lib.Ieee.{Float, nan, inf, fin, binary64, up, down, size, mul, to_unsigned, fits, is_nan, to_bits}
+use lib.Ieee.{Float, nan, inf, fin, binary64, up, down, size, mul, to_unsigned, fits, to_bits}
 use lib.Ieee.Digits.{size-lt, size-le, size_reaches}
 use lib.Ieee.Exact.{HasValue}
 use lib.Ieee.Fits.{and_l, and_r, down_pos, kept-lt}
@@ -156,15 +156,6 @@ module _ (x : Float) (t : T (fits binary64 x)) (w : Fraction 3 32 x) where
 
 -- ---- the laws
 module _ (x : Float) (w : AfterUsual x) where
-  pub no_nan : T (not (is_nan x))
-  unfolding is_nan
-  no_nan = go x (fraction 3 32 x w).has
-    where
-      go : (z : Float) → HasValue z false (num x) (den x) → T (not (is_nan z))
-      go nan h = h
-      go (inf s) h = tt
-      go (fin s m e) h = tt
-
   pub exponent_within : fits binary64 x ≡ true → (1019 ≤ to_bits binary64 x / 2 ^ 52) × (to_bits binary64 x / 2 ^ 52 ≤ 1055)
   exponent_within f =
       let t : T (fits binary64 x) = subst T (sym f) tt in

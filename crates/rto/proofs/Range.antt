@@ -1,12 +1,9 @@
 -- Every bound is a float: 6 x 2 ^ 32, 2 ^ 33, 2 ^ 35, 2 ^ 34 and 2 ^ 32, so a step leaves rttvar where it was, within 2 ^ 32; and the calls keep the rest by their refusals. Assumes nothing.
-use Rattle.std.proofs.Common.{◌≡◌, ℕ, ◌+◌, ◌*◌, ◌^◌, ◌<◌, ◌≤◌, Bool, true, false, cond, ◌||◌, ltb, List, [], ◌∷◌, refl, zero-lt-suc, arith, lit≤, ltb-false}
+use Rattle.std.proofs.Common.{◌≡◌, ℕ, ◌+◌, ◌*◌, ◌^◌, ◌<◌, ◌≤◌, Bool, true, false, cond, ◌||◌, ltb, List, [], ◌∷◌, refl, Ok, Err, zero-lt-suc, arith, lit≤, ltb-false}
 use lib.Ieee.{Float, binary64, mul}
 use Rattle.limits.specs.Limits.{setting_max}
-use Rattle.limits.specs.Refusals.{beyond_limit, bad_bounds}
+use Rattle.limits.specs.declared.Refusal.TheVariants.{BeyondLimit, BadBounds}
 use Rattle.rto.specs.declared.RtoManager.{RtoManager}
-use Rattle.rto.specs.declared.Made.TheVariants.{Ready, Refused as Made-Refused}
-use Rattle.rto.specs.declared.Measured.TheVariants.{Srtt, Refused as Measured-Refused}
-use Rattle.rto.specs.declared.Set.TheVariants.{Kept, Refused as Set-Refused}
 use Rattle.rto.specs.Rto.{f64, gap, first_var, next_var, next_srtt, weighed, four_times, clamp, renewed, settled, counts_first, sampled, given, fresh, beyond}
 use Rattle.rto.specs.Calls.{number_of, Accepted, Call, measure, get, reset, set, of_measured, of_set, called, after}
 use Rattle.rto.specs.Range.{AtMost, StateInRange, StepInRange, InRange}
@@ -68,7 +65,7 @@ called_in : (t : RtoManager) (c : Call) → StateInRange t → StateInRange (cal
 called_in t (measure r) h = go (beyond r) t.no_update (ltb-false setting_max r)
   where
     go : (f n : Bool) → (f ≡ false → r ≤ setting_max)
-        → StateInRange (of_measured t (cond f (Measured-Refused beyond_limit) (cond n (Srtt t.srtt t) (Srtt (sampled t r).srtt (sampled t r))))).state
+        → StateInRange (of_measured (cond f (Err BeyondLimit, t) (cond n (Ok t.srtt, t) (Ok (sampled t r).srtt, sampled t r)))).state
     go true n k = h
     go false true k = h
     go false false k = sampled_in t r (k refl) h
@@ -80,7 +77,7 @@ called_in t reset h = go t.no_update
     go false = renewed_in t 0 (f64 0) t.rto_initial h (lit≤ tt) zero_most h.initial
 called_in t (set x b) h = go (beyond x) (ltb-false setting_max x)
   where
-    go : (f : Bool) → (f ≡ false → x ≤ setting_max) → StateInRange (of_set t (cond f (Set-Refused beyond_limit) (Kept (given t x b)))).state
+    go : (f : Bool) → (f ≡ false → x ≤ setting_max) → StateInRange (of_set (cond f (Err BeyondLimit, t) (Ok (record {}), given t x b))).state
     go true k = h
     go false k = record { srtt = h.srtt; rttvar = h.rttvar; rto = k refl; initial = h.initial; maximum = h.maximum; ordered = h.ordered }
 
@@ -98,7 +95,7 @@ fresh_in initial lo hi = go (beyond initial) (beyond lo) (beyond hi) (ltb hi lo)
     not_two e = omega arith
 
     go : (a b c d : Bool) → (a ≡ false → initial ≤ setting_max) → (c ≡ false → hi ≤ setting_max) → (d ≡ false → lo ≤ hi)
-        → number_of (cond (a || b || c) (Made-Refused beyond_limit) (cond d (Made-Refused bad_bounds) (Ready (fresh initial lo hi)))) ≡ 0 → StateInRange (fresh initial lo hi)
+        → number_of (cond (a || b || c) (Err BeyondLimit) (cond d (Err BadBounds) (Ok (fresh initial lo hi)))) ≡ 0 → StateInRange (fresh initial lo hi)
     go true b c d A C D e = absurd (not_one e)
     go false true c d A C D e = absurd (not_one e)
     go false false true d A C D e = absurd (not_one e)

@@ -6,9 +6,8 @@ use lib.Ieee.Exact.{HasValue}
 use lib.Ieee.Fits.{down_pos}
 use lib.Ieee.Nearest.{div_same}
 use Rattle.rto.specs.declared.RtoManager.{RtoManager}
-use Rattle.rto.specs.declared.Measured.{Measured}
-use Rattle.rto.specs.Rto.{f64, gap, four_times, clamp, sampled, fresh}
-use Rattle.rto.specs.Calls.{measure, of_measured, called, after}
+use Rattle.rto.specs.Rto.{Answered, f64, gap, four_times, clamp, sampled, fresh}
+use Rattle.rto.specs.Calls.{measure, called, after}
 use Rattle.rto.specs.Exact.{places, none, followed, exactly}
 use Rattle.rto.specs.Rfc.{RfcRttvar, RfcSrtt, Taken, RfcSrttAfter, RfcRto}
 use Rattle.rto.proofs.Cases.{taken, first, next}
@@ -39,7 +38,7 @@ rfc_srtt s r = omega arith
 
 -- what a measurement that is taken leaves is the sample's
 left : (t : RtoManager) (r : ℕ) → Taken t r → called t (measure r) ≡ sampled t r
-left t r h = ap (λ (m : Measured). (of_measured t m).state) (taken t r h.within h.allowed)
+left t r h = ap (λ (m : Answered ℕ). m.1) (taken t r h.within h.allowed)
 
 pub rfc_srtt_after : RfcSrttAfter
 rfc_srtt_after =

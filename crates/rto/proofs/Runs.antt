@@ -1,10 +1,9 @@
 -- What holds of the float and of the exact value after a first measurement, and is kept by each later one, holds after any run of short measurements: no other call touches either, or both are blank again. Assumes nothing.
-use Rattle.std.proofs.Common.{◌≡◌, ℕ, ◌+◌, ◌*◌, ◌^◌, ◌≤◌, Bool, true, false, cond, ◌⊎◌, List, [], ◌∷◌, sym, refl, ap, ◌∙◌, subst, inl, inr, mul-le-mul_right, arith, lit≤, pow-add}
+use Rattle.std.proofs.Common.{◌≡◌, ℕ, ◌+◌, ◌*◌, ◌^◌, ◌≤◌, Bool, true, false, cond, ◌⊎◌, List, [], ◌∷◌, sym, refl, ap, ◌∙◌, subst, inl, inr, Ok, Err, mul-le-mul_right, arith, lit≤, pow-add}
 use lib.Ieee.{Float}
 use Rattle.limits.specs.Limits.{setting_max}
-use Rattle.limits.specs.Refusals.{beyond_limit}
+use Rattle.limits.specs.declared.Refusal.TheVariants.{BeyondLimit}
 use Rattle.rto.specs.declared.RtoManager.{RtoManager}
-use Rattle.rto.specs.declared.Set.TheVariants.{Kept, Refused as Set-Refused}
 use Rattle.rto.specs.Rto.{f64, gap, next_srtt, first_var, next_var, renewed, settled, sampled, counts_first, rto_of, reset_of, given, beyond, fresh}
 use Rattle.rto.specs.Calls.{Call, measure, get, reset, set, Outcome, of_measured, of_set, called, after}
 use Rattle.rto.specs.Exact.{Exact, places, none, begun, grown, followed, exactly, Short}
@@ -74,13 +73,13 @@ module _ (Q : Float → Exact → Type 0)
     pub measured_sample : (t : RtoManager) (x : Exact) (r : ℕ) → r ≤ 60000 → t.no_update ≡ false → Both t x → Sampled (called t (measure r)) (followed t x (measure r))
     measured_sample t x r h e b =
         let y = cond (counts_first t) (begun r) (grown t.srtt x r) in
-        subst (λ (o : Outcome). Sampled o.state (followed t x (measure r))) (sym (ap (of_measured t) (taken t r (in_limit r h) e)))
+        subst (λ (o : Outcome). Sampled o.state (followed t x (measure r))) (sym (ap of_measured (taken t r (in_limit r h) e)))
         (subst (λ (c : Bool). Sampled (sampled t r) (cond c x y)) (sym e) (taken_sample t x r h b))
 
     measured_frozen : (t : RtoManager) (x : Exact) (r : ℕ) → r ≤ 60000 → t.no_update ≡ true → Both t x → Both (called t (measure r)) (followed t x (measure r))
     measured_frozen t x r h e b =
         let y = cond (counts_first t) (begun r) (grown t.srtt x r) in
-        subst (λ (o : Outcome). Both o.state (followed t x (measure r))) (sym (ap (of_measured t) (frozen t r (in_limit r h) e)))
+        subst (λ (o : Outcome). Both o.state (followed t x (measure r))) (sym (ap of_measured (frozen t r (in_limit r h) e)))
         (subst (λ (c : Bool). Both t (cond c x y)) (sym e) b)
 
     reset_both : (t : RtoManager) (x : Exact) (c : Bool) → Both t x → Both (cond c t (renewed t 0 (f64 0) t.rto_initial)) (cond c x none)
@@ -90,7 +89,7 @@ module _ (Q : Float → Exact → Type 0)
     set_both : (t : RtoManager) (x : Exact) (y : ℕ) (c : Bool) → Both t x → Both (called t (set y c)) x
     set_both t x y c b = go (beyond y)
       where
-        go : (f : Bool) → Both (of_set t (cond f (Set-Refused beyond_limit) (Kept (given t y c)))).state x
+        go : (f : Bool) → Both (of_set (cond f (Err BeyondLimit, t) (Ok (record {}), given t y c))).state x
         go true = b
         go false = record { short = b.short; bound = b.bound; holds = b.holds }
 

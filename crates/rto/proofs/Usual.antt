@@ -1,13 +1,11 @@
--- What a usual state has, and what a measurement of one answers. Assumes nothing.
-use Rattle.std.proofs.Common.{◌≡◌, ℕ, ◌≤◌, Bool, true, false, cond, negsuc, sym, refl, ap, ◌∙◌, true≢false, ltb-false}
+-- What a usual state has. Assumes nothing.
+use Rattle.std.proofs.Common.{◌≡◌, ◌≤◌, Bool, true, false, cond, negsuc, sym, refl, true≢false, ltb-false}
 use lib.Ieee.{fin, le}
 use borrow.Author.Tests.{eqb-false}
 use Rattle.limits.specs.Limits.{setting_max}
 use Rattle.rto.specs.declared.RtoManager.{RtoManager}
-use Rattle.rto.specs.declared.Measured.TheVariants.{Srtt}
-use Rattle.rto.specs.Rto.{counts_first, beyond, settled, next_srtt, next_var, measured_of}
+use Rattle.rto.specs.Rto.{counts_first, beyond}
 use Rattle.rto.specs.Usual.{Usual, is_usual}
-use Rattle.rto.proofs.Cases.{taken, next}
 
 -- what the tests of `is_usual` show, one by one
 pub record UsualState (t : RtoManager) : Type 0 where
@@ -38,7 +36,3 @@ module _ (t : RtoManager) (e : is_usual t ≡ true) where
         near = ltb-false setting_max t.srtt c.0;
         usual = record { least = d.0; most = d.1 };
       }
-
-  pub usual_measured : (r : ℕ) → r ≤ setting_max
-      → measured_of t r ≡ Srtt (next_srtt t.srtt r) (settled t (next_srtt t.srtt r) (next_var t.rttvar t.srtt r))
-  usual_measured r h = taken t r h usual_state.updates ∙ ap (λ (u : RtoManager). Srtt u.srtt u) (next t r usual_state.later)

@@ -1,18 +1,13 @@
 -- What the caller hears of each call, by document 01's numbers, and what a run of calls leaves.
-use Rattle.std.specs.Prelude.{◌≡◌, ℕ, Bool, ◌⊎◌, List, [], ◌∷◌, ◌≢◌}
-use Rattle.limits.specs.Refusals.{beyond_limit, bad_bounds}
+use Rattle.std.specs.Prelude.{◌≡◌, ℕ, Bool, ◌⊎◌, List, [], ◌∷◌, ◌≢◌, Result, Err}
+use Rattle.limits.specs.declared.Refusal.{Refusal}
+use Rattle.limits.specs.declared.Refusal.TheVariants.{BeyondLimit, BadBounds}
 use Rattle.rto.specs.declared.RtoManager.{RtoManager}
-use Rattle.rto.specs.declared.Made.{Made}
-use Rattle.rto.specs.declared.Made.TheVariants.{Refused as Made-Refused}
-use Rattle.rto.specs.declared.Measured.{Measured}
-use Rattle.rto.specs.declared.Measured.TheVariants.{Srtt, Refused as Measured-Refused}
-use Rattle.rto.specs.declared.Set.{Set}
-use Rattle.rto.specs.declared.Set.TheVariants.{Kept, Refused as Set-Refused}
 use Rattle.rto.specs.Told.{Told, tells, refusing, told_made, told_measured, told_set}
-use Rattle.rto.specs.Rto.{new_of, measured_of, get_of, reset_of, set_of}
+use Rattle.rto.specs.Rto.{Answered, new_of, measured_of, get_of, reset_of, set_of}
 
 -- 01's number for a creation: 0 is done, and a manager comes with it
-abbrev pub number_of : Made → ℕ
+abbrev pub number_of : Result RtoManager Refusal → ℕ
 number_of a = (told_made a).number
 
 -- creation with these settings is done
@@ -44,22 +39,20 @@ done vs = telling (tells vs)
 abbrev pub refused : ℕ → RtoManager → Outcome
 refused n = telling (refusing n)
 
--- a measurement in the state t: srtt is its value
-abbrev pub of_measured : RtoManager → Measured → Outcome
-of_measured t (Srtt s u) = telling (told_measured (Srtt s u)) u
-of_measured t (Measured-Refused n) = telling (told_measured (Measured-Refused n)) t
+-- a measurement: srtt is its value
+abbrev pub of_measured : Answered ℕ → Outcome
+of_measured a = telling (told_measured a.0) a.1
 
--- `set_rto` in the state t
-abbrev pub of_set : RtoManager → Set → Outcome
-of_set t (Kept u) = telling (told_set (Kept u)) u
-of_set t (Set-Refused n) = telling (told_set (Set-Refused n)) t
+-- `set_rto`
+abbrev pub of_set : Answered (Unit {0}) → Outcome
+of_set a = telling (told_set a.0) a.1
 
 -- a call in the state t
 abbrev pub outcome : RtoManager → Call → Outcome
-outcome t (measure r) = of_measured t (measured_of t r)
+outcome t (measure r) = of_measured (measured_of t r)
 outcome t get = done (get_of t ∷ []) t
 outcome t reset = done [] (reset_of t)
-outcome t (set x b) = of_set t (set_of t x b)
+outcome t (set x b) = of_set (set_of t x b)
 
 -- the state that a call leaves
 abbrev pub called : RtoManager → Call → RtoManager
@@ -76,6 +69,6 @@ RefusedKeeps = (t : RtoManager) (c : Call) → ((outcome t c).number ≢ 0) → 
 
 -- Claim: a refusal is one of those that 01 lists: creation 1 and 2, measuring and `set_rto` 1; the other calls answer none.
 pub record RefusalsAreListed : Type 0 where
-  pub creation : (initial lo hi n : ℕ) → new_of initial lo hi ≡ Made-Refused n → (n ≡ beyond_limit) ⊎ (n ≡ bad_bounds)
-  pub measuring : (t : RtoManager) (r n : ℕ) → measured_of t r ≡ Measured-Refused n → n ≡ beyond_limit
-  pub setting : (t : RtoManager) (x : ℕ) (b : Bool) (n : ℕ) → set_of t x b ≡ Set-Refused n → n ≡ beyond_limit
+  pub creation : (initial lo hi : ℕ) (n : Refusal) → new_of initial lo hi ≡ Err n → (n ≡ BeyondLimit) ⊎ (n ≡ BadBounds)
+  pub measuring : (t : RtoManager) (r : ℕ) (n : Refusal) → (measured_of t r).0 ≡ Err n → n ≡ BeyondLimit
+  pub setting : (t : RtoManager) (x : ℕ) (b : Bool) (n : Refusal) → (set_of t x b).0 ≡ Err n → n ≡ BeyondLimit

@@ -1,16 +1,11 @@
 -- Document 01, "Leaves first": the RTO. Every operation on floats is `lib.Ieee`'s, each rounded, in 01's order.
-use Rattle.std.specs.Prelude.{ℕ, ◌+◌, ◌-◌, ◌*◌, ◌/◌, min, max, Bool, false, cond, ◌||◌, pos, ◌==◌, nat_lt, Float}
+use Rattle.std.specs.Prelude.{ℕ, ◌+◌, ◌-◌, ◌*◌, ◌/◌, min, max, Bool, false, cond, ◌||◌, pos, ◌==◌, nat_lt, Float, Result, Ok, Err}
 use Rattle.std.specs.Float.{binary64}
 use Rattle.std.specs.Float.Ieee.{mul, add, div, of_int, to_unsigned}
 use Rattle.limits.specs.Limits.{setting_max}
-use Rattle.limits.specs.Refusals.{beyond_limit, bad_bounds}
+use Rattle.limits.specs.declared.Refusal.{Refusal}
+use Rattle.limits.specs.declared.Refusal.TheVariants.{BeyondLimit, BadBounds}
 use Rattle.rto.specs.declared.RtoManager.{RtoManager}
-use Rattle.rto.specs.declared.Made.{Made}
-use Rattle.rto.specs.declared.Made.TheVariants.{Ready, Refused as Made-Refused}
-use Rattle.rto.specs.declared.Measured.{Measured}
-use Rattle.rto.specs.declared.Measured.TheVariants.{Srtt, Refused as Measured-Refused}
-use Rattle.rto.specs.declared.Set.{Set}
-use Rattle.rto.specs.declared.Set.TheVariants.{Kept, Refused as Set-Refused}
 
 -- ---- the numbers
 
@@ -94,16 +89,20 @@ abbrev pub beyond : ℕ → Bool
 beyond x = nat_lt setting_max x
 
 -- creation: refusal 1 for a setting beyond the limit, then 2 for a minimum above the maximum
-abbrev pub new_of : ℕ → ℕ → ℕ → Made
+abbrev pub new_of : ℕ → ℕ → ℕ → Result RtoManager Refusal
 new_of initial lo hi =
-    cond (beyond initial || beyond lo || beyond hi) (Made-Refused beyond_limit)
-    (cond (nat_lt hi lo) (Made-Refused bad_bounds) (Ready (fresh initial lo hi)))
+    cond (beyond initial || beyond lo || beyond hi) (Err BeyondLimit)
+    (cond (nat_lt hi lo) (Err BadBounds) (Ok (fresh initial lo hi)))
+
+-- what a call that may be refused answers, and the state that it leaves
+abbrev pub Answered : Type 0 → Type 0
+Answered A = Result A Refusal × RtoManager
 
 -- measuring: refusal 1 first, no change while no_update is set, and otherwise a sample; the answer is srtt
-abbrev pub measured_of : RtoManager → ℕ → Measured
+abbrev pub measured_of : RtoManager → ℕ → Answered ℕ
 measured_of t r =
-    cond (beyond r) (Measured-Refused beyond_limit)
-    (cond t.no_update (Srtt t.srtt t) (Srtt (sampled t r).srtt (sampled t r)))
+    cond (beyond r) (Err BeyondLimit, t)
+    (cond t.no_update (Ok t.srtt, t) (Ok (sampled t r).srtt, sampled t r))
 
 -- the RTO as it stands
 abbrev pub get_of : RtoManager → ℕ
@@ -114,5 +113,5 @@ abbrev pub reset_of : RtoManager → RtoManager
 reset_of t = cond t.no_update t (renewed t 0 (f64 0) t.rto_initial)
 
 -- `set_rto`: refusal 1, or the RTO and the flag are kept as they are given
-abbrev pub set_of : RtoManager → ℕ → Bool → Set
-set_of t x b = cond (beyond x) (Set-Refused beyond_limit) (Kept (given t x b))
+abbrev pub set_of : RtoManager → ℕ → Bool → Answered (Unit {0})
+set_of t x b = cond (beyond x) (Err BeyondLimit, t) (Ok (record {}), given t x b)

@@ -3,11 +3,14 @@
 // What holds over any calls stands in specs/.
 #![tactic(auto)]
 
-ghost use Rattle.std.specs.Prelude.{◌≡◌, ◌+◌, ◌≤◌, max};
+ghost use Rattle.std.specs.Prelude.{◌≡◌, ◌+◌, ◌≤◌, cond, Ok, Err};
 ghost use Rattle.std.specs.Float.{binary64};
 ghost use Rattle.std.specs.Float.Ieee.{add, mul, div};
 ghost use Rattle.limits.specs.Limits.{setting_max};
-ghost use Rattle.rto.specs.Rto.{f64, gap, first_var, next_var, next_srtt, four_times, clamp, settled, new_of, measured_of, get_of, reset_of, set_of};
+ghost use Rattle.limits.specs.declared.Refusal.TheVariants.{BeyondLimit};
+ghost use Rattle.rto.specs.Rto.{f64, beyond, first_var, next_var, next_srtt, four_times, clamp, settled, sampled, new_of, measured_of, get_of, reset_of, set_of};
+
+use limits::Refusal;
 
 // srtt 0 means that the next measurement counts as the first.
 #[derive(Clone, Copy)]
@@ -21,37 +24,10 @@ pub struct RtoManager {
     pub rto_max: u64,
 }
 
-// A manager, or a refusal's number.
-#[derive(Clone, Copy)]
-pub enum Made {
-    Ready(RtoManager),
-    Refused(u8),
-}
-
-// The srtt and the manager after the measurement, or a refusal's number.
-#[derive(Clone, Copy)]
-pub enum Measured {
-    Srtt(u64, RtoManager),
-    Refused(u8),
-}
-
-// The manager with the RTO that was given, or a refusal's number.
-#[derive(Clone, Copy)]
-pub enum Set {
-    Kept(RtoManager),
-    Refused(u8),
-}
-
 fn first_var(rtt: u64) -> f64
     ensures { result ≡ first_var rtt }
 {
     std::num::nearest_u64_to_f64(rtt) / 2.0
-}
-
-pub fn gap_of(a: u64, b: u64) -> u64
-    ensures { result ≡ gap a b }
-{
-    if a <= b { b - a } else { a - b }
 }
 
 // In this order and no other: each operation rounds.
@@ -67,14 +43,14 @@ fn next_var(rttvar: f64, srtt: u64, rtt: u64) -> f64
     requires fact_2 { rtt ≤ setting_max }
     ensures { result ≡ next_var rttvar srtt rtt }
 {
-    smoothed(rttvar, gap_of(srtt, rtt) as f64)
+    smoothed(rttvar, srtt.abs_diff(rtt) as f64)
 }
 
 // Of any srtt: the distance is rounded to a float.
 fn any_next_var(rttvar: f64, srtt: u64, rtt: u64) -> f64
     ensures { result ≡ next_var rttvar srtt rtt }
 {
-    smoothed(rttvar, std::num::nearest_u64_to_f64(gap_of(srtt, rtt)))
+    smoothed(rttvar, std::num::nearest_u64_to_f64(srtt.abs_diff(rtt)))
 }
 
 // Of an srtt within the limit: nothing wraps.
@@ -93,58 +69,42 @@ fn any_next_srtt(srtt: u64, rtt: u64) -> u64
     7 * (srtt / 8) + (7 * (srtt % 8) + rtt) / 8
 }
 
-// Rust's cast saturates; the one used here wants its argument in range. Rust's gives 0 below 1 and for a NaN, so the first test is at 1: the library's
-// own is there, and the compiler makes one of the two.
 fn four_times(rttvar: f64) -> u64
     ensures { result ≡ four_times rttvar }
 {
-    let x = 4.0 * rttvar;
-    if x >= 1.0 {
-        if x < 18446744073709551616.0 {
-            return std::num::truncating_f64_to_u64(x);
-        }
-        return u64::MAX;
-    }
-    0
+    std::num::saturating_f64_to_u64(4.0 * rttvar)
 }
 
-fn larger(a: u64, b: u64) -> u64
-    ensures { result ≡ max a b }
-{
-    if a < b { b } else { a }
-}
-
-// The sum is made only where it is within the maximum, so it never wraps.
+// A sum that saturates is above the maximum, or is the maximum.
 pub fn clamped(low: u64, high: u64, srtt: u64, spread: u64) -> u64
     ensures { result ≡ clamp low high (srtt + spread) }
 {
-    if srtt > high {
-        return larger(low, high);
+    srtt.saturating_add(spread).min(high).max(low)
+}
+
+// Settings and measured times are within one limit.
+fn within_limit(time: u64) -> Result<(), Refusal>
+    ensures { result ≡ cond (beyond time) (Err BeyondLimit) (Ok (record {})) }
+{
+    if time > limits::SETTING_MAX {
+        Err(Refusal::BeyondLimit)
+    } else {
+        Ok(())
     }
-    if spread > high - srtt {
-        return larger(low, high);
-    }
-    larger(low, srtt + spread)
 }
 
 impl RtoManager {
     // The initial RTO is not clamped.
-    pub fn new(rto_initial: u64, rto_min: u64, rto_max: u64) -> Made
+    pub fn new(rto_initial: u64, rto_min: u64, rto_max: u64) -> Result<RtoManager, Refusal>
         ensures { result ≡ new_of rto_initial rto_min rto_max }
     {
-        if rto_initial > limits::SETTING_MAX {
-            return Made::Refused(limits::BEYOND_LIMIT);
-        }
-        if rto_min > limits::SETTING_MAX {
-            return Made::Refused(limits::BEYOND_LIMIT);
-        }
-        if rto_max > limits::SETTING_MAX {
-            return Made::Refused(limits::BEYOND_LIMIT);
-        }
+        within_limit(rto_initial)?;
+        within_limit(rto_min)?;
+        within_limit(rto_max)?;
         if rto_min > rto_max {
-            return Made::Refused(limits::BAD_BOUNDS);
+            return Err(Refusal::BadBounds);
         }
-        Made::Ready(RtoManager {
+        Ok(RtoManager {
             srtt: 0,
             rttvar: 0.0,
             rto: rto_initial,
@@ -155,88 +115,73 @@ impl RtoManager {
         })
     }
 
-    // What a measurement that is taken answers: srtt, and the manager with the RTO that srtt and rttvar give.
-    fn settle(self, srtt: u64, rttvar: f64) -> Measured
-        ensures { result ≡ Measured.Srtt srtt (settled self srtt rttvar) }
+    // With the RTO that srtt and rttvar give.
+    fn settled(self, srtt: u64, rttvar: f64) -> RtoManager
+        ensures { result ≡ settled self srtt rttvar }
     {
-        Measured::Srtt(
+        RtoManager {
             srtt,
-            RtoManager {
-                srtt,
-                rttvar,
-                rto: clamped(self.rto_min, self.rto_max, srtt, four_times(rttvar)),
-                no_update: self.no_update,
-                rto_initial: self.rto_initial,
-                rto_min: self.rto_min,
-                rto_max: self.rto_max,
-            },
-        )
+            rttvar,
+            rto: clamped(self.rto_min, self.rto_max, srtt, four_times(rttvar)),
+            ..self
+        }
     }
 
-    // While no_update holds, the old srtt is answered and nothing changes.
-    pub fn set_new_rtt(self, rtt: u64) -> Measured
-        ensures { result ≡ measured_of self rtt }
+    // After a measurement that is taken.
+    fn sampled(self, rtt: u64) -> RtoManager
+        requires { rtt ≤ setting_max }
+        ensures { result ≡ sampled self rtt }
     {
-        if rtt > limits::SETTING_MAX {
-            return Measured::Refused(limits::BEYOND_LIMIT);
-        }
-        if self.no_update {
-            return Measured::Srtt(self.srtt, self);
-        }
         if self.srtt == 0 {
-            return self.settle(rtt, first_var(rtt));
-        }
-        // No call makes such an srtt (`InRange`). One test for srtt and rttvar, so that the compiler has one branch.
-        if self.srtt > limits::SETTING_MAX {
-            return self.settle(
+            self.settled(rtt, first_var(rtt))
+        } else if self.srtt > limits::SETTING_MAX {
+            // No call makes such an srtt (`InRange`). One test for srtt and rttvar, so that the compiler has one branch.
+            self.settled(
                 any_next_srtt(self.srtt, rtt),
                 any_next_var(self.rttvar, self.srtt, rtt),
-            );
+            )
+        } else {
+            let srtt = next_srtt(self.srtt, rtt);
+            // With the srtt that was, not the new one.
+            let rttvar = next_var(self.rttvar, self.srtt, rtt);
+            self.settled(srtt, rttvar)
         }
-        let srtt = next_srtt(self.srtt, rtt);
-        // With the srtt that was, not the new one.
-        let rttvar = next_var(self.rttvar, self.srtt, rtt);
-        self.settle(srtt, rttvar)
     }
 
-    pub fn get_rto(self) -> u64
-        ensures { result ≡ get_of self }
+    // The answer is srtt. While no_update holds, it is the old one, and nothing changes.
+    pub fn set_new_rtt(&mut self, rtt: u64) -> Result<u64, Refusal>
+        ensures { (result, self.new) ≡ measured_of self.old rtt }
+    {
+        within_limit(rtt)?;
+        if !self.no_update {
+            *self = self.sampled(rtt);
+        }
+        Ok(self.srtt)
+    }
+
+    pub fn get_rto(&self) -> u64
+        ensures { result ≡ get_of self.now }
     {
         self.rto
     }
 
-    pub fn reset(self) -> RtoManager
-        ensures { result ≡ reset_of self }
+    pub fn reset(&mut self)
+        ensures { self.new ≡ reset_of self.old }
     {
-        if self.no_update {
-            return self;
-        }
-        RtoManager {
-            srtt: 0,
-            rttvar: 0.0,
-            rto: self.rto_initial,
-            no_update: self.no_update,
-            rto_initial: self.rto_initial,
-            rto_min: self.rto_min,
-            rto_max: self.rto_max,
+        if !self.no_update {
+            self.srtt = 0;
+            self.rttvar = 0.0;
+            self.rto = self.rto_initial;
         }
     }
 
     // Works while no_update holds too, and can lift it; the RTO is not clamped.
-    pub fn set_rto(self, rto: u64, no_update: bool) -> Set
-        ensures { result ≡ set_of self rto no_update }
+    pub fn set_rto(&mut self, rto: u64, no_update: bool) -> Result<(), Refusal>
+        ensures { (result, self.new) ≡ set_of self.old rto no_update }
     {
-        if rto > limits::SETTING_MAX {
-            return Set::Refused(limits::BEYOND_LIMIT);
-        }
-        Set::Kept(RtoManager {
-            srtt: self.srtt,
-            rttvar: self.rttvar,
-            rto,
-            no_update,
-            rto_initial: self.rto_initial,
-            rto_min: self.rto_min,
-            rto_max: self.rto_max,
-        })
+        within_limit(rto)?;
+        self.rto = rto;
+        self.no_update = no_update;
+        Ok(())
     }
 }

@@ -1,38 +1,22 @@
 -- What each call says, of n words: the estimator that head and words mean afterwards is the model's, the reply is the model's answer, and a refusal
 -- leaves the head and every word. The model's calls are those of `rto`.
-use Rattle.std.specs.Prelude.{◌≡◌, Bool, cond, List, [], ℕ, ◌≤◌, eqb}
+use Rattle.std.specs.Prelude.{◌≡◌, Bool, cond, List, [], ℕ, ◌≤◌, eqb, Result, Ok, Err}
 use Rattle.limits.specs.Refusals.{beyond_limit}
 use Rattle.limits.specs.Told.{Told, value_at, given}
+use Rattle.limits.specs.declared.Refusal.{Refusal}
 use Rattle.rto.specs.declared.RtoManager.{RtoManager}
-use Rattle.rto.specs.declared.Made.{Made}
-use Rattle.rto.specs.declared.Measured.{Measured}
-use Rattle.rto.specs.Told.{told_made, told_measured}
+use Rattle.rto.specs.Told.{told_made}
 use Rattle.rto.specs.Calls.{Outcome, telling, done, refused, of_measured, of_set}
 use Rattle.rto.specs.Rto.{new_of, measured_of, get_of, reset_of, set_of}
-use Rattle.rto_cells.specs.Words.{manager_of, head_of}
+use Rattle.rto_cells.specs.Words.{manager_of}
 use Rattle.rto_cells.specs.declared.Head.{Head}
 use Rattle.rto_cells.specs.declared.Smoothed.{Smoothed}
-use Rattle.rto_cells.specs.declared.Said.{Said}
-use Rattle.rto_cells.specs.declared.SaidSmoothed.{SaidSmoothed}
 
 -- ---- replies
 
 -- 01's number, and the smoothed time where there is one
 abbrev pub smoothed_in : Told → Smoothed
 smoothed_in t = record { value = value_at 0 t; refusal = t.number; yes = given t }
-
--- a reply, beside the head
-abbrev pub said_of : Head → ℕ → Said
-said_of d n = record { head = d; reply = n }
-
--- the same of what a measurement tells
-abbrev pub said_told : Head → Told → SaidSmoothed
-said_told d t = record { head = d; reply = smoothed_in t }
-
--- a measurement: the head after it, or the one that was there
-abbrev pub said_measured : Head → Measured → SaidSmoothed
-said_measured d (Measured.Srtt s m) = said_told (head_of m) (told_measured (Measured.Srtt s m))
-said_measured d (Measured.Refused n) = said_told d (told_measured (Measured.Refused n))
 
 -- ---- a call
 
@@ -41,9 +25,9 @@ abbrev pub told_of : Outcome → Told
 told_of o = record { number = o.number; values = o.values }
 
 -- a creation, where this estimator was before: a refusal leaves it
-abbrev pub of_made : RtoManager → Made → Outcome
-of_made t (Made.Ready m) = telling (told_made (Made.Ready m)) m
-of_made t (Made.Refused n) = telling (told_made (Made.Refused n)) t
+abbrev pub of_made : RtoManager → Result RtoManager Refusal → Outcome
+of_made t (Ok m) = telling (told_made (Ok m)) m
+of_made t (Err n) = telling (told_made (Err n)) t
 
 -- an estimator has four words; any other number of them is refused
 abbrev pub in_words : (n : ℕ) → RtoManager → Outcome → Outcome
@@ -69,7 +53,7 @@ Creates n initial low high d ws = Changes (in_words n (manager_of d ws) (of_made
 -- a measurement: the answer is the smoothed time
 abbrev pub Measures : (n rtt : ℕ) → Head → List ℕ → Head → List ℕ → Smoothed → Type 0
 Measures n rtt d ws d' ws' y =
-    let o = in_words n (manager_of d ws) (of_measured (manager_of d ws) (measured_of (manager_of d ws) rtt)) in
+    let o = in_words n (manager_of d ws) (of_measured (measured_of (manager_of d ws) rtt)) in
     Does (smoothed_in (told_of o)) o.state y.refusal d ws d' ws' y
 
 -- the RTO as it stands
@@ -82,4 +66,4 @@ Resets n d ws = Changes (in_words n (manager_of d ws) (done [] (reset_of (manage
 
 -- `set_rto`: RTO and flag as they are given
 abbrev pub Sets : (n rto : ℕ) → (noUpdate : Bool) → Head → List ℕ → Head → List ℕ → ℕ → Type 0
-Sets n x b d ws = Changes (in_words n (manager_of d ws) (of_set (manager_of d ws) (set_of (manager_of d ws) x b))) d ws
+Sets n x b d ws = Changes (in_words n (manager_of d ws) (of_set (set_of (manager_of d ws) x b))) d ws

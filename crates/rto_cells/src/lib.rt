@@ -5,14 +5,14 @@
 
 ghost use Rattle.std.specs.Prelude.{◌≡◌, true, ◌≤◌, length};
 ghost use Rattle.limits.specs.Limits.{setting_max};
-ghost use Rattle.limits.specs.Flags.{bit_of};
-ghost use Rattle.limits.specs.Told.{refusing};
-ghost use Rattle.rto.specs.Rto.{next_var, four_times, measured_of};
+ghost use Rattle.rto.specs.Rto.{next_var, four_times, sampled, measured_of};
+ghost use Rattle.rto.specs.Told.{told_measured, told_set};
 ghost use Rattle.rto.specs.Usual.{Usual, AfterUsual, is_usual};
-ghost use Rattle.rto_cells.specs.Words.{manager_in, head_of};
-ghost use Rattle.rto_cells.specs.Says.{said_of, said_told, said_measured, Creates, Measures, Gets, Resets, Sets};
+ghost use Rattle.rto_cells.specs.Words.{manager_in_words, head_of};
+ghost use Rattle.rto_cells.specs.Says.{smoothed_in, Creates, Measures, Gets, Resets, Sets};
 
-use rto::{Made, Measured, RtoManager, Set};
+use limits::Refusal;
+use rto::RtoManager;
 
 // How many words there are: the initial RTO, the least, the largest, and whether updates are off, where any word but 0 is yes.
 pub const WORDS: usize = 4;
@@ -26,7 +26,7 @@ pub struct Head {
     pub rto: u64,
 }
 
-// The smoothed time, where `yes` is set.
+// What C hears of a measurement: the smoothed time, where `yes` is set.
 #[repr(C)]
 #[derive(Clone, Copy)]
 pub struct Smoothed {
@@ -35,94 +35,62 @@ pub struct Smoothed {
     pub yes: bool,
 }
 
-// The reply to a call that only changes the estimator is a refusal's number, or 0.
-#[derive(Clone, Copy)]
-pub struct Said {
-    pub head: Head,
-    pub reply: u8,
+impl From<Result<u64, Refusal>> for Smoothed {
+    ghost from_gives = { λ answer smoothed. smoothed ≡ smoothed_in (told_measured answer) };
+
+    fn from(answer: Result<u64, Refusal>) -> Smoothed {
+        match answer {
+            Ok(value) => Smoothed {
+                value,
+                refusal: 0,
+                yes: true,
+            },
+            Err(refusal) => Smoothed {
+                value: 0,
+                refusal: refusal.number(),
+                yes: false,
+            },
+        }
+    }
 }
 
-#[derive(Clone, Copy)]
-pub struct SaidSmoothed {
-    pub head: Head,
-    pub reply: Smoothed,
+// What C hears of a call that only changes the estimator: a refusal's number, or 0.
+pub fn number_of(answer: Result<(), Refusal>) -> u8
+    ensures { result ≡ (told_set answer).number }
+{
+    match answer {
+        Ok(()) => 0,
+        Err(refusal) => refusal.number(),
+    }
 }
 
 // ---- packing
 
-fn flag(b: bool) -> u64
-    ensures { result ≡ bit_of b }
+// Any other number of words is refused.
+fn unpacked(head: &Head, cells: &[u64]) -> Result<RtoManager, Refusal>
+    ensures { result ≡ manager_in_words head.now cells.now }
 {
-    if b {
-        return 1;
-    }
-    0
-}
-
-fn unpacked(head: Head, initial: u64, low: u64, high: u64, no_update: u64) -> RtoManager
-    ensures { result ≡ manager_in head initial low high no_update }
-{
-    RtoManager {
-        srtt: head.srtt,
-        rttvar: head.rttvar,
-        rto: head.rto,
-        no_update: no_update != 0,
-        rto_initial: initial,
-        rto_min: low,
-        rto_max: high,
+    match cells {
+        &[rto_initial, rto_min, rto_max, no_update] => Ok(RtoManager {
+            srtt: head.srtt,
+            rttvar: head.rttvar,
+            rto: head.rto,
+            no_update: no_update != 0,
+            rto_initial,
+            rto_min,
+            rto_max,
+        }),
+        _ => Err(Refusal::BeyondLimit),
     }
 }
 
-fn packed(m: RtoManager) -> Head
-    ensures { result ≡ head_of m }
+fn packed(manager: &RtoManager) -> Head
+    ensures { result ≡ head_of manager.now }
 {
     Head {
-        srtt: m.srtt,
-        rttvar: m.rttvar,
-        rto: m.rto,
-    }
-}
-
-// ---- replies
-
-fn answer(head: Head, number: u8) -> Said
-    ensures { result ≡ said_of head number }
-{
-    Said {
-        head: head,
-        reply: number,
-    }
-}
-
-fn untimed(head: Head, number: u8) -> SaidSmoothed
-    ensures { result ≡ said_told head (refusing number) }
-{
-    SaidSmoothed {
-        head: head,
-        reply: Smoothed {
-            value: 0,
-            refusal: number,
-            yes: false,
-        },
-    }
-}
-
-fn measured(head: Head, a: Measured) -> SaidSmoothed
-    ensures { result ≡ said_measured head a }
-{
-    match a {
-        Measured::Srtt(srtt, m) => {
-            let after = packed(m);
-            SaidSmoothed {
-                head: after,
-                reply: Smoothed {
-                    value: srtt,
-                    refusal: 0,
-                    yes: true,
-                },
-            }
-        }
-        Measured::Refused(n) => untimed(head, n),
+        srtt: manager.srtt,
+        rttvar: manager.rttvar,
+        rto: manager.rto,
     }
 }
 
@@ -131,22 +99,14 @@ fn measured(head: Head, a: Measured) -> SaidSmoothed
 // `rto` is the definition, operation by operation. Most measurements find a usual estimator (`is_usual`): updates are on, it has a measurement, srtt is within
 // the limit, and rttvar from 1/8 to 2^32. There a quicker way leads to the same numbers, and it stands here; every other measurement is left to `rto`.
 
-fn is_usual(m: RtoManager) -> bool
-    ensures { result ≡ is_usual m }
+fn is_usual(manager: &RtoManager) -> bool
+    ensures { result ≡ is_usual manager.now }
 {
-    if m.no_update {
-        return false;
-    }
-    if m.srtt == 0 {
-        return false;
-    }
-    if m.srtt > limits::SETTING_MAX {
-        return false;
-    }
-    if m.rttvar >= 0.125 {
-        return m.rttvar <= 4294967296.0;
-    }
-    false
+    !manager.no_update
+        && manager.srtt != 0
+        && manager.srtt <= limits::SETTING_MAX
+        && manager.rttvar >= 0.125
+        && manager.rttvar <= 4294967296.0
 }
 
 // The float that (6.0 * rttvar + 2.0 * distance) / 8.0 rounds to, by one operation fewer: a multiplication by 8 goes through each rounding.
@@ -156,11 +116,11 @@ fn usual_rttvar(rttvar: f64, srtt: u64, rtt: u64) -> f64
     requires fact_3 { rtt ≤ setting_max }
     ensures { result ≡ next_var rttvar srtt rtt }
 {
-    0.75 * rttvar + 0.25 * (rto::gap_of(srtt, rtt) as f64)
+    0.75 * rttvar + 0.25 * (srtt.abs_diff(rtt) as f64)
 }
 
-// The weight of the digit that a float's bits leave out: 2^52.
-const LEADING: u64 = 4_503_599_627_370_496;
+// The weight of the digit that a float's bits leave out.
+const LEADING: u64 = 1 << 52;
 
 // The floor of 4 x rttvar, with nothing left to be tested: the 52 digits that the bits end with, with the leading one put back, shifted down by what the
 // exponent above them says.
@@ -168,119 +128,95 @@ fn usual_spread(rttvar: f64) -> u64
     requires { AfterUsual rttvar }
     ensures { result ≡ four_times rttvar }
 {
-    let bits = f64::to_bits(rttvar);
+    let bits = rttvar.to_bits();
     let exponent = bits / LEADING;
     (bits % LEADING + LEADING) >> (1073 - exponent)
 }
 
 // Of an srtt within the limit: 7 * srtt + rtt cannot wrap.
-fn usual_answer(m: RtoManager, rtt: u64) -> Measured
-    requires fact_1 { is_usual m ≡ true }
+fn usual_sample(manager: &mut RtoManager, rtt: u64)
+    requires fact_1 { is_usual manager.old ≡ true }
     requires fact_2 { rtt ≤ setting_max }
-    ensures { result ≡ measured_of m rtt }
+    ensures { manager.new ≡ sampled manager.old rtt }
 {
-    let rttvar = usual_rttvar(m.rttvar, m.srtt, rtt);
-    let srtt = (7 * m.srtt + rtt) / 8;
-    let rto = rto::clamped(m.rto_min, m.rto_max, srtt, usual_spread(rttvar));
-    Measured::Srtt(
-        srtt,
-        RtoManager {
-            srtt,
-            rttvar,
-            rto,
-            no_update: m.no_update,
-            rto_initial: m.rto_initial,
-            rto_min: m.rto_min,
-            rto_max: m.rto_max,
-        },
-    )
+    let rttvar = usual_rttvar(manager.rttvar, manager.srtt, rtt);
+    let srtt = (7 * manager.srtt + rtt) / 8;
+    manager.rto = rto::clamped(manager.rto_min, manager.rto_max, srtt, usual_spread(rttvar));
+    manager.srtt = srtt;
+    manager.rttvar = rttvar;
 }
 
 // The answer of `rto`, by either way. The time is tested before the flag is, so that the flag is not loaded as one pair with the srtt beside it, which the last
 // measurement stored alone.
-fn measure(m: RtoManager, rtt: u64) -> Measured
-    ensures { result ≡ measured_of m rtt }
+fn measure(manager: &mut RtoManager, rtt: u64) -> Result<u64, Refusal>
+    ensures { (result, manager.new) ≡ measured_of manager.old rtt }
 {
     if rtt > limits::SETTING_MAX {
-        return Measured::Refused(limits::BEYOND_LIMIT);
+        return Err(Refusal::BeyondLimit);
     }
-    if is_usual(m) {
-        return usual_answer(m, rtt);
+    if is_usual(manager) {
+        usual_sample(manager, rtt);
+        Ok(manager.srtt)
+    } else {
+        manager.set_new_rtt(rtt)
     }
-    m.set_new_rtt(rtt)
 }
 
 // ---- the calls
 
 // An estimator without a measurement, whatever the numbers were. The initial RTO is not clamped. Refusals: 1, 2.
-pub fn new(head: Head, cells: &mut [u64], initial: u64, low: u64, high: u64) -> Said
-    ensures { Creates (length cells.old) initial low high head cells.old result.head cells.new result.reply }
+pub fn new(
+    head: &mut Head,
+    cells: &mut [u64],
+    initial: u64,
+    low: u64,
+    high: u64,
+) -> Result<(), Refusal>
+    ensures { Creates (length cells.old) initial low high head.old cells.old head.new cells.new (told_set result).number }
 {
     if cells.len() != WORDS {
-        return answer(head, limits::BEYOND_LIMIT);
+        return Err(Refusal::BeyondLimit);
     }
-    let made = RtoManager::new(initial, low, high);
-    match made {
-        Made::Refused(n) => answer(head, n),
-        Made::Ready(m) => {
-            let after = packed(m);
-            cells[0] = initial;
-            cells[1] = low;
-            cells[2] = high;
-            cells[3] = 0;
-            answer(after, 0)
-        }
-    }
+    let manager = RtoManager::new(initial, low, high)?;
+    *head = packed(&manager);
+    cells.copy_from_slice(&[initial, low, high, 0]);
+    Ok(())
 }
 
 // Takes a measured time, and answers the smoothed one. Refusal: 1.
-pub fn set_new_rtt(head: Head, cells: &mut [u64], rtt: u64) -> SaidSmoothed
-    ensures { Measures (length cells.old) rtt head cells.old result.head cells.new result.reply }
+pub fn set_new_rtt(head: &mut Head, cells: &[u64], rtt: u64) -> Result<u64, Refusal>
+    ensures { Measures (length cells.now) rtt head.old cells.now head.new cells.now (smoothed_in (told_measured result)) }
 {
-    if cells.len() != WORDS {
-        return untimed(head, limits::BEYOND_LIMIT);
-    }
-    let manager = unpacked(head, cells[0], cells[1], cells[2], cells[3]);
-    let a = measure(manager, rtt);
-    measured(head, a)
+    let mut manager = unpacked(head, cells)?;
+    let srtt = measure(&mut manager, rtt)?;
+    *head = packed(&manager);
+    Ok(srtt)
 }
 
 // The RTO as it stands.
-pub fn get_rto(head: Head, cells: &[u64]) -> u64
-    ensures { Gets head cells.now result }
+pub fn get_rto(head: &Head, cells: &[u64]) -> u64
+    ensures { Gets head.now cells.now result }
 {
     head.rto
 }
 
 // Back to no measurement and the initial RTO; nothing changes while updates are off.
-pub fn reset(head: Head, cells: &mut [u64]) -> Said
-    ensures { Resets (length cells.old) head cells.old result.head cells.new result.reply }
+pub fn reset(head: &mut Head, cells: &[u64]) -> Result<(), Refusal>
+    ensures { Resets (length cells.now) head.old cells.now head.new cells.now (told_set result).number }
 {
-    if cells.len() != WORDS {
-        return answer(head, limits::BEYOND_LIMIT);
-    }
-    let manager = unpacked(head, cells[0], cells[1], cells[2], cells[3]);
-    let after = manager.reset();
-    let rest = packed(after);
-    answer(rest, 0)
+    let mut manager = unpacked(head, cells)?;
+    manager.reset();
+    *head = packed(&manager);
+    Ok(())
 }
 
 // The RTO is kept as it is given, and holds while `no_update` is set. Refusal: 1.
-pub fn set_rto(head: Head, cells: &mut [u64], rto: u64, no_update: bool) -> Said
-    ensures { Sets (length cells.old) rto no_update head cells.old result.head cells.new result.reply }
+pub fn set_rto(head: &mut Head, cells: &mut [u64], rto: u64, no_update: bool) -> Result<(), Refusal>
+    ensures { Sets (length cells.old) rto no_update head.old cells.old head.new cells.new (told_set result).number }
 {
-    if cells.len() != WORDS {
-        return answer(head, limits::BEYOND_LIMIT);
-    }
-    let manager = unpacked(head, cells[0], cells[1], cells[2], cells[3]);
-    let a = manager.set_rto(rto, no_update);
-    match a {
-        Set::Refused(n) => answer(head, n),
-        Set::Kept(m) => {
-            let rest = packed(m);
-            let off = flag(no_update);
-            cells[3] = off;
-            answer(rest, 0)
-        }
-    }
+    let mut manager = unpacked(head, cells)?;
+    manager.set_rto(rto, no_update)?;
+    *head = packed(&manager);
+    cells[3] = no_update as u64;
+    Ok(())
 }

@@ -57,7 +57,7 @@ module _ (bytes : List ℕ) where
       ∙ ap (λ (k : ℕ). r ∷ (requests_from n (suc i) ws bytes ++ requests_from m k ws bytes)) b
 
   -- eight words are one request
-  one_request : (ws : List ℕ) → length ws ≡ 8 → requests_in ws bytes ≡ request_of ws bytes ∷ []
+  pub one_request : (ws : List ℕ) → length ws ≡ 8 → requests_in ws bytes ≡ request_of ws bytes ∷ []
   one_request ws h =
       let a : length ws / 8 ≡ 1 = omega (arith, h) in
       let b : length ws ≤ 8 = omega (arith, h) in

@@ -1,4 +1,3 @@
 -- What is proved of the definitions alone.
 pub mod Reading
-pub mod Rows
 pub mod Shown

@@ -1,9 +1,7 @@
 -- The table at work: a line for each of its rows, with the call that the line is; and lines that are none.
-use Rattle.std.specs.Prelude.{◌≡◌, true, false, pos, negsuc}
+use Rattle.std.specs.Prelude.{◌≡◌, true, false, pos, negsuc, Some, None}
 use Prim.Native.String.{String}
-use Rattle.limits.specs.declared.Moment.{Moment}
 use Rattle.timer.specs.declared.Timer.{Timer}
-use Rattle.timer.specs.declared.Maximum.{Maximum}
 use Rattle.calls.specs.declared.Call.{Call}
 use Rattle.calls.specs.declared.Query.{Query}
 use Rattle.clock_calls.specs.declared.TimerCall.{TimerCall}
@@ -90,10 +88,10 @@ ShowsOwn =
 -- the timers' and the estimator's
 abbrev pub ShowsClocks : Type 0
 ShowsClocks =
-    Clocks "timers 1 - 3" (TimerCall.Make (Maximum.Of 1) Maximum.Unlimited 3)
+    Clocks "timers 1 - 3" (TimerCall.Make (Some 1) None 3)
     × Clocks "tnext" TimerCall.NextTimeout
-    × Clocks "tset 0 18446744073709551615" (TimerCall.Set Timer.T1Init (Moment.At 18446744073709551615))
-    × Clocks "tset 1 -" (TimerCall.Set Timer.T1Cookie Moment.Absent)
+    × Clocks "tset 0 18446744073709551615" (TimerCall.Set Timer.T1Init (Some 18446744073709551615))
+    × Clocks "tset 1 -" (TimerCall.Set Timer.T1Cookie None)
     × Clocks "tget 2" (TimerCall.Get Timer.T2Shutdown)
     × Clocks "tstart 3 4 5" (TimerCall.Start Timer.T3RTX 4 5)
     × Clocks "trestart 4 5 6" (TimerCall.Restart Timer.Reconfig 5 6)

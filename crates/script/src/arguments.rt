@@ -3,140 +3,142 @@ ghost use Rattle.std.specs.Prelude.{◌≡◌};
 ghost use Rattle.script.specs.Arguments.{most_of, number_of, dash_of, below_of, figure_of, parts_of, argument_of};
 ghost use Rattle.script.specs.Arguments.{put, before_of, words_of};
 
-use super::table::{FLAG, NONE, OPTIONAL, PARTS, Row, SIGNED};
+use super::table::{Kind, Means};
 use words::Token;
 
-// Whether the word is an argument of its kind; its value; a mark, 1 where a number is below zero or where there is none.
+// It is marked where a number is below zero, or where there is none.
 #[derive(Clone, Copy)]
-pub struct Argument(pub bool, pub u64, pub u64);
-
-// Whether every argument is one of its kind; the words of a call behind its row.
-#[derive(Clone, Copy)]
-pub struct Words(pub bool, pub u64, pub u64, pub u64, pub u64, pub u64);
-
-const NO: Argument = Argument(false, 0, 0);
-
-// The largest number of each kind.
-const LARGEST: [u64; 10] = [
-    0,
-    18_446_744_073_709_551_615,
-    4_294_967_295,
-    65_535,
-    255,
-    255,
-    5,
-    0,
-    9_223_372_036_854_775_807,
-    18_446_744_073_709_551_615,
-];
-
-fn most(kind: u64) -> u64
-    ensures { result ≡ most_of kind }
-{
-    if kind < 10 {
-        return LARGEST[kind as usize];
-    }
-    0
+pub struct Argument {
+    pub value: u64,
+    pub marked: bool,
 }
 
-fn number(kind: u64, n: u64) -> Argument
+// The words of a call behind its row.
+#[derive(Clone, Copy)]
+pub struct Words(pub u64, pub u64, pub u64, pub u64, pub u64);
+
+// As far below zero as a number may be.
+const LEAST: u64 = 1 << 63;
+
+// The largest number of a kind.
+fn most(kind: Kind) -> u64
+    ensures { result ≡ most_of kind }
+{
+    match kind {
+        Kind::Long | Kind::Optional => 18_446_744_073_709_551_615,
+        Kind::Middle => 4_294_967_295,
+        Kind::Short => 65_535,
+        Kind::Octet | Kind::Flag => 255,
+        Kind::Timer => 5,
+        Kind::Signed => 9_223_372_036_854_775_807,
+        Kind::Parts => 0,
+    }
+}
+
+// Of a flag 0 is no, and every other number is yes.
+fn number(kind: Kind, n: u64) -> Option<Argument>
     ensures { result ≡ number_of kind n }
 {
     if n > most(kind) {
-        return NO;
+        return None;
     }
-    if kind == FLAG {
-        if n == 0 {
-            return Argument(true, 0, 0);
-        }
-        return Argument(true, 1, 0);
-    }
-    Argument(true, n, 0)
+    let value = if kind == Kind::Flag { n.min(1) } else { n };
+    Some(Argument {
+        value,
+        marked: false,
+    })
 }
 
-fn dash(kind: u64) -> Argument
+fn dash(kind: Kind) -> Option<Argument>
     ensures { result ≡ dash_of kind }
 {
-    if kind == OPTIONAL {
-        return Argument(true, 0, 1);
+    match kind {
+        Kind::Optional => Some(Argument {
+            value: 0,
+            marked: true,
+        }),
+        _ => None,
     }
-    NO
 }
 
-fn below(kind: u64, n: u64) -> Argument
+// A number below zero is told by how much below -1.
+fn below(kind: Kind, n: u64) -> Option<Argument>
     ensures { result ≡ below_of kind n }
 {
-    if kind == SIGNED {
-        if n == 0 {
-            return Argument(true, 0, 0);
-        }
-        if n > 9_223_372_036_854_775_808 {
-            return NO;
-        }
-        return Argument(true, n - 1, 1);
+    match (kind, n) {
+        (Kind::Signed, 0) => Some(Argument {
+            value: 0,
+            marked: false,
+        }),
+        (Kind::Signed, 1..=LEAST) => Some(Argument {
+            value: n - 1,
+            marked: true,
+        }),
+        _ => None,
     }
-    NO
 }
 
-fn figure(kind: u64, token: Token) -> Argument
+fn figure(kind: Kind, token: Token) -> Option<Argument>
     ensures { result ≡ figure_of kind token }
 {
     match token {
-        Token::Name(_) => NO,
         Token::Number(n) => number(kind, n),
         Token::Dash => dash(kind),
         Token::Negative(n) => below(kind, n),
-        Token::Other => NO,
+        Token::Name(_) | Token::Other => None,
     }
 }
 
-fn parts(name: u64) -> Argument
+fn parts(name: u64) -> Option<Argument>
     ensures { result ≡ parts_of name }
 {
-    let row = super::table::find(name, 0);
-    if row.6 < 8 {
-        return Argument(true, row.6, 0);
+    match super::table::find(name, 0)?.3 {
+        Means::Part(value) => Some(Argument {
+            value,
+            marked: false,
+        }),
+        _ => None,
     }
-    NO
 }
 
-fn read(kind: u64, token: Token) -> Argument
+fn read(kind: Kind, token: Token) -> Option<Argument>
     ensures { result ≡ argument_of kind token }
 {
-    if kind == PARTS {
-        return parts(words::code(token));
+    match kind {
+        Kind::Parts => parts(token.code()),
+        _ => figure(kind, token),
     }
-    figure(kind, token)
 }
 
-fn ahead(word: u64, rest: Words) -> Words
-    ensures { result ≡ put word rest }
-{
-    Words(rest.0, word, rest.1, rest.2, rest.3, rest.4)
+impl Words {
+    // One more in front.
+    fn put(self, word: u64) -> Words
+        ensures { result ≡ put word self }
+    {
+        Words(word, self.0, self.1, self.2, self.3)
+    }
 }
 
-fn before(kind: u64, token: Token, rest: Words) -> Words
+// What is no argument adds no word.
+fn before(kind: Option<Kind>, token: Token, rest: Words) -> Option<Words>
     ensures { result ≡ before_of kind token rest }
 {
-    if kind == NONE {
-        return rest;
+    let Some(kind) = kind else {
+        return Some(rest);
+    };
+    let Argument { value, marked } = read(kind, token)?;
+    match kind {
+        Kind::Signed | Kind::Optional => Some(rest.put(marked as u64).put(value)),
+        _ => Some(rest.put(value)),
     }
-    let argument = read(kind, token);
-    if argument.0 {
-        if kind < SIGNED {
-            return ahead(argument.1, rest);
-        }
-        return ahead(argument.1, ahead(argument.2, rest));
-    }
-    Words(false, 0, 0, 0, 0, 0)
 }
 
-// The words that the arguments of a line are, by the kinds of its row.
-pub fn words_of(row: Row, first: Token, second: Token, third: Token, fourth: Token) -> Words
-    ensures { result ≡ words_of row first second third fourth }
+// The words that the arguments of a line are, by the kinds of its row; the first of its words is the name.
+pub fn words_of(kinds: [Option<Kind>; 4], words: [Token; 5]) -> Option<Words>
+    ensures { result ≡ words_of kinds words }
 {
-    let last = before(row.5, fourth, Words(true, 0, 0, 0, 0, 0));
-    let more = before(row.4, third, last);
-    let most = before(row.3, second, more);
-    before(row.2, first, most)
+    let last = before(kinds[3], words[4], Words(0, 0, 0, 0, 0))?;
+    let more = before(kinds[2], words[3], last)?;
+    let most = before(kinds[1], words[2], more)?;
+    before(kinds[0], words[1], most)
 }

@@ -1,13 +1,13 @@
 // What a line of a script is, and which call a row of the table is, of words: the calls of the sender are coded calls, and the others stand
 // here.
 ghost use Rattle.std.specs.Prelude.{◌≡◌};
-ghost use Rattle.script.specs.Commands.{put_of, own_of, timer_of, maximum_of, moment_of, clock_of, estimate_of, made_of, command_in};
+ghost use Rattle.script.specs.Commands.{put_of, own_of, timer_of, optional_of, clock_of, estimate_of, made_of, given_of, command_in};
 
 use super::arguments::Words;
+use super::table::{Clock, Estimate, Means, Own};
 use calls::Call;
 use clock_calls::{RtoCall, TimerCall};
-use limits::Moment;
-use timer::{Maximum, Timer};
+use timer::Timer;
 use words::Token;
 
 // What a line is; `SetBuffered` is the script's own. `Blank` has no word and gets no answer; `Bad` is no call. `List` asks for the expired TSNs; `ListWithin` names the room of that list.
@@ -79,64 +79,56 @@ pub enum Command {
 fn put(at: u64, width: u64, value: u64) -> Command
     ensures { result ≡ put_of at width value }
 {
-    if width == 0 {
-        return Command::Bad;
-    }
-    if width > 8 {
-        return Command::Bad;
-    }
-    Command::Put {
-        at: at,
-        width: width,
-        value: value,
+    match width {
+        1..=8 => Command::Put { at, width, value },
+        _ => Command::Bad,
     }
 }
 
 // The script's own.
-fn own(row: u64, a: u64, b: u64, c: u64) -> Command
-    ensures { result ≡ own_of row a b c }
+fn own(call: Own, a: u64, b: u64, c: u64) -> Command
+    ensures { result ≡ own_of call a b c }
 {
-    match row {
-        0 => Command::Sender {
+    match call {
+        Own::Sender => Command::Sender {
             tsn: (a % 4_294_967_296) as u32,
             number: b,
         },
-        1 => Command::List { clock: a },
-        2 => Command::ListWithin { clock: a, room: b },
-        3 => Command::Counts,
-        4 => Command::Stream {
+        Own::List => Command::List { clock: a },
+        Own::ListWithin => Command::ListWithin { clock: a, room: b },
+        Own::Counts => Command::Counts,
+        Own::Stream => Command::Stream {
             identifier: (a % 65_536) as u16,
         },
-        5 => Command::SetBuffered {
+        Own::SetBuffered => Command::SetBuffered {
             identifier: (a % 65_536) as u16,
             amount: (b % 4_294_967_296) as u32,
         },
-        6 => Command::State {
+        Own::State => Command::State {
             sender: true,
             timers: true,
             rto: true,
         },
-        7 => Command::State {
+        Own::Parts => Command::State {
             sender: a % 2 == 1,
             timers: a / 2 % 2 == 1,
             rto: a / 4 % 2 == 1,
         },
-        8 => Command::Wipe {
+        Own::Wipe => Command::Wipe {
             byte: (a % 256) as u8,
         },
-        9 => put(a, b, c),
-        10 => Command::Look { at: a, count: b },
-        11 => Command::Sack { length: a },
-        12 => Command::Fill {
+        Own::Put => put(a, b, c),
+        Own::Look => Command::Look { at: a, count: b },
+        Own::Sack => Command::Sack { length: a },
+        Own::Fill => Command::Fill {
             seed: (a % 256) as u8,
         },
-        13 => Command::Lend { count: a },
-        14 => Command::Read { at: a, count: b },
-        15 => Command::Data {
+        Own::Lend => Command::Lend { count: a },
+        Own::Read => Command::Read { at: a, count: b },
+        Own::Data => Command::Data {
             tsn: (a % 4_294_967_296) as u32,
             room: b,
         },
-        _ => Command::Bad,
     }
 }
 
@@ -146,125 +138,100 @@ fn timer(place: u64) -> Timer
     Timer::VALUES[(place % 6) as usize]
 }
 
-fn maximum(value: u64, mark: u64) -> Maximum
-    ensures { result ≡ maximum_of value mark }
+// A maximum or a moment; there is none, where it is marked.
+fn optional(value: u64, mark: u64) -> Option<u64>
+    ensures { result ≡ optional_of value mark }
 {
-    if mark == 1 {
-        return Maximum::Unlimited;
-    }
-    Maximum::Of(value)
-}
-
-fn moment(value: u64, mark: u64) -> Moment
-    ensures { result ≡ moment_of value mark }
-{
-    if mark == 1 {
-        return Moment::Absent;
-    }
-    Moment::At(value)
+    (mark != 1).then_some(value)
 }
 
 // The timers'.
-fn clock(row: u64, a: u64, b: u64, c: u64, d: u64, e: u64) -> Command
-    ensures { result ≡ clock_of row a b c d e }
+fn clock(call: Clock, a: u64, b: u64, c: u64, d: u64, e: u64) -> TimerCall
+    ensures { result ≡ clock_of call a b c d e }
 {
-    let which = timer(a);
-    let init = maximum(a, b);
-    let data = maximum(c, d);
-    let time = moment(b, c);
-    match row {
-        0 => Command::Clock(TimerCall::Make {
-            init: init,
-            data: data,
+    let timer = timer(a);
+    match call {
+        Clock::Make => TimerCall::Make {
+            init: optional(a, b),
+            data: optional(c, d),
             longest: e,
-        }),
-        1 => Command::Clock(TimerCall::NextTimeout),
-        2 => Command::Clock(TimerCall::Set {
-            timer: which,
-            time: time,
-        }),
-        3 => Command::Clock(TimerCall::Get { timer: which }),
-        4 => Command::Clock(TimerCall::Start {
-            timer: which,
+        },
+        Clock::NextTimeout => TimerCall::NextTimeout,
+        Clock::Set => TimerCall::Set {
+            timer,
+            time: optional(b, c),
+        },
+        Clock::Get => TimerCall::Get { timer },
+        Clock::Start => TimerCall::Start {
+            timer,
             clock: b,
             interval: c,
-        }),
-        5 => Command::Clock(TimerCall::Restart {
-            timer: which,
+        },
+        Clock::Restart => TimerCall::Restart {
+            timer,
             clock: b,
             interval: c,
-        }),
-        6 => Command::Clock(TimerCall::Stop { timer: which }),
-        7 => Command::Clock(TimerCall::Reset { timer: which }),
-        8 => Command::Clock(TimerCall::Suppress { timer: which }),
-        9 => Command::Clock(TimerCall::IsExpired {
-            timer: which,
-            clock: b,
-        }),
-        10 => Command::Clock(TimerCall::SetCount {
-            timer: which,
+        },
+        Clock::Stop => TimerCall::Stop { timer },
+        Clock::Reset => TimerCall::Reset { timer },
+        Clock::Suppress => TimerCall::Suppress { timer },
+        Clock::IsExpired => TimerCall::IsExpired { timer, clock: b },
+        Clock::SetCount => TimerCall::SetCount {
+            timer,
             count: (b % 4_294_967_296) as u32,
-        }),
-        _ => Command::Bad,
+        },
     }
 }
 
 // The estimator's.
-fn estimate(row: u64, a: u64, b: u64, c: u64) -> Command
-    ensures { result ≡ estimate_of row a b c }
+fn estimate(call: Estimate, a: u64, b: u64, c: u64) -> RtoCall
+    ensures { result ≡ estimate_of call a b c }
 {
-    match row {
-        0 => Command::Estimate(RtoCall::Make {
+    match call {
+        Estimate::Make => RtoCall::Make {
             initial: a,
             least: b,
             most: c,
-        }),
-        1 => Command::Estimate(RtoCall::Measure { rtt: a }),
-        2 => Command::Estimate(RtoCall::Reset),
-        3 => Command::Estimate(RtoCall::Set {
+        },
+        Estimate::Measure => RtoCall::Measure { rtt: a },
+        Estimate::Reset => RtoCall::Reset,
+        Estimate::Set => RtoCall::Set {
             rto: a,
             kept: b % 2 == 1,
-        }),
-        4 => Command::Estimate(RtoCall::Get),
-        _ => Command::Bad,
+        },
+        Estimate::Get => RtoCall::Get,
     }
 }
 
-// The call of a row of any of the four.
-fn made(row: u64, given: Words) -> Command
-    ensures { result ≡ made_of row given }
+// The call of a row of any of the four. A part of a state is none.
+fn made(call: Means, given: Words) -> Command
+    ensures { result ≡ made_of call given }
 {
-    if !given.0 {
-        return Command::Bad;
+    let Words(a, b, c, d, e) = given;
+    match call {
+        Means::Sender(row) => Command::Run(coded_calls::plain(row, a, b, c, d)),
+        Means::Own(own) => self::own(own, a, b, c),
+        Means::Clock(clock) => Command::Clock(self::clock(clock, a, b, c, d, e)),
+        Means::Estimate(estimate) => Command::Estimate(self::estimate(estimate, a, b, c)),
+        Means::Part(_) => Command::Bad,
     }
-    if row < 1_000 {
-        let call = coded_calls::plain(row, given.1, given.2, given.3, given.4);
-        return Command::Run(call);
-    }
-    if row < 2_000 {
-        return own(row - 1_000, given.1, given.2, given.3);
-    }
-    if row < 3_000 {
-        return clock(row - 2_000, given.1, given.2, given.3, given.4, given.5);
-    }
-    estimate(row - 3_000, given.1, given.2, given.3)
 }
 
-// The call of a line's words: `words` of them, of which the first is its name. What stands in a place beyond them is not looked at.
-pub fn called(
-    words: u8,
-    name: Token,
-    first: Token,
-    second: Token,
-    third: Token,
-    fourth: Token,
-) -> Command
-    ensures { result ≡ command_in words name first second third fourth }
+// The call of so many words, where the table has one.
+fn given(count: u8, words: [Token; 5]) -> Option<Command>
+    ensures { result ≡ given_of count words }
 {
-    if words == 0 {
+    let row = super::table::find(words[0].code(), count)?;
+    let given = super::arguments::words_of(row.2, words)?;
+    Some(made(row.3, given))
+}
+
+// The call of a line's words: so many of them, of which the first is its name. What stands in a place beyond them is not looked at.
+pub fn called(count: u8, words: [Token; 5]) -> Command
+    ensures { result ≡ command_in count words }
+{
+    if count == 0 {
         return Command::Blank;
     }
-    let row = super::table::find(words::code(name), words);
-    let given = super::arguments::words_of(row, first, second, third, fourth);
-    made(row.6, given)
+    given(count, words).unwrap_or(Command::Bad)
 }

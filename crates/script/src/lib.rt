@@ -1,4 +1,4 @@
-// A script's line, read byte by byte. What has been read is a small record by value, so a line of any length needs no room: `feed` takes a
+// A script's line, read byte by byte. What has been read is a small record, so a line of any length needs no room: `feed` takes a
 // byte of it, and `finish` says which call it is. The law of specs/Claims says that feeding all the bytes of a line and finishing gives
 // `line_means` of those bytes.
 #![tactic(auto)]
@@ -8,168 +8,87 @@ pub mod commands;
 pub mod table;
 
 ghost use Rattle.std.specs.Prelude.{◌≡◌};
-ghost use Rattle.script.specs.Lines.{start_of, blank, placed_of, next_of, stored_of, ended_of, marked_of, longer_of, feed_of, finish_of};
+ghost use Rattle.script.specs.Lines.{start_of, blank, ended_of, longer_of, feed_of, finish_of};
 
 use self::commands::Command;
 use words::Token;
 
-// `words` of them are whole, six where there are more; `inside` says that `current` is one more, not ended yet, and `comment` that the rest
-// of the line is none. The first word is the name, the others are its arguments.
+// So many of its words are whole, six where there are more, and the first five stand in their places: the name and its arguments. `current` is
+// one more, not ended yet, and `comment` says that the rest of the line is none.
 #[derive(Clone, Copy)]
 pub struct Line {
-    pub words: u8,
-    pub inside: bool,
+    pub count: u8,
+    pub words: [Token; 5],
+    pub current: Option<Token>,
     pub comment: bool,
-    pub current: Token,
-    pub name: Token,
-    pub first: Token,
-    pub second: Token,
-    pub third: Token,
-    pub fourth: Token,
-}
-
-// Nothing is read.
-pub fn start() -> Line
-    ensures { result ≡ start_of }
-{
-    Line {
-        words: 0,
-        inside: false,
-        comment: false,
-        current: Token::Other,
-        name: Token::Other,
-        first: Token::Other,
-        second: Token::Other,
-        third: Token::Other,
-        fourth: Token::Other,
-    }
 }
 
 // Words are parted by spaces, tabs and carriage returns.
 fn is_blank(byte: u8) -> bool
     ensures { result ≡ blank byte }
 {
-    if byte == 32 {
-        return true;
-    }
-    if byte == 9 {
-        return true;
-    }
-    byte == 13
+    matches!(byte, b' ' | b'\t' | b'\r')
 }
 
-// The current word, where this is its place, and else what stands there.
-fn placed(words: u8, place: u8, current: Token, old: Token) -> Token
-    ensures { result ≡ placed_of words place current old }
-{
-    if words == place {
-        return current;
+impl Line {
+    // Nothing is read.
+    pub fn start() -> Line
+        ensures { result ≡ start_of }
+    {
+        Line {
+            count: 0,
+            words: [Token::Other; 5],
+            current: None,
+            comment: false,
+        }
     }
-    old
-}
 
-fn next(words: u8) -> u8
-    ensures { result ≡ next_of words }
-{
-    if words < 6 {
-        return words + 1;
+    // The current word is whole.
+    fn end(&mut self)
+        ensures { self.new ≡ ended_of self.old }
+    {
+        if let Some(word) = self.current {
+            if self.count < 5 {
+                self.words[self.count as usize] = word;
+            }
+            self.count = self.count.saturating_add(1).min(6);
+            self.current = None;
+        }
     }
-    6
-}
 
-// The current word is whole.
-fn stored(line: Line, comment: bool) -> Line
-    ensures { result ≡ stored_of line comment }
-{
-    let words = line.words;
-    let current = line.current;
-    let name = line.name;
-    let first = line.first;
-    let second = line.second;
-    let third = line.third;
-    let fourth = line.fourth;
-    Line {
-        words: next(words),
-        inside: false,
-        comment: comment,
-        current: Token::Other,
-        name: placed(words, 0, current, name),
-        first: placed(words, 1, current, first),
-        second: placed(words, 2, current, second),
-        third: placed(words, 3, current, third),
-        fourth: placed(words, 4, current, fourth),
+    // The current word has one byte more, or begins with it.
+    fn grow(&mut self, byte: u8)
+        ensures { self.new ≡ longer_of self.old byte }
+    {
+        let word = match self.current {
+            Some(word) => word.grow(byte),
+            None => Token::begin(byte),
+        };
+        self.current = Some(word);
     }
-}
 
-fn ended(line: Line, comment: bool) -> Line
-    ensures { result ≡ ended_of line comment }
-{
-    if line.inside {
-        return stored(line, comment);
+    // The line has one byte more; that is none of its end.
+    pub fn feed(&mut self, byte: u8)
+        ensures { self.new ≡ feed_of self.old byte }
+    {
+        if self.comment {
+            return;
+        }
+        if byte == b'#' {
+            self.end();
+            self.comment = true;
+        } else if is_blank(byte) {
+            self.end();
+        } else {
+            self.grow(byte);
+        }
     }
-    let current = line.current;
-    marked(line, false, comment, current)
-}
 
-// The same words, with another that is current.
-fn marked(line: Line, inside: bool, comment: bool, current: Token) -> Line
-    ensures { result ≡ marked_of line inside comment current }
-{
-    let name = line.name;
-    let first = line.first;
-    let second = line.second;
-    let third = line.third;
-    let fourth = line.fourth;
-    Line {
-        words: line.words,
-        inside: inside,
-        comment: comment,
-        current: current,
-        name: name,
-        first: first,
-        second: second,
-        third: third,
-        fourth: fourth,
+    // The call that the line is.
+    pub fn finish(mut self) -> Command
+        ensures { result ≡ finish_of self }
+    {
+        self.end();
+        commands::called(self.count, self.words)
     }
-}
-
-fn longer(line: Line, byte: u8) -> Line
-    ensures { result ≡ longer_of line byte }
-{
-    if line.inside {
-        let current = line.current;
-        let grown = words::grow(current, byte);
-        return marked(line, true, false, grown);
-    }
-    let begun = words::begin(byte);
-    marked(line, true, false, begun)
-}
-
-// The line with one byte more; that is none of its end.
-pub fn feed(line: Line, byte: u8) -> Line
-    ensures { result ≡ feed_of line byte }
-{
-    if line.comment {
-        return line;
-    }
-    if byte == 35 {
-        return ended(line, true);
-    }
-    if is_blank(byte) {
-        return ended(line, false);
-    }
-    longer(line, byte)
-}
-
-// The call that the line is.
-pub fn finish(line: Line) -> Command
-    ensures { result ≡ finish_of line }
-{
-    let whole = ended(line, false);
-    let name = whole.name;
-    let first = whole.first;
-    let second = whole.second;
-    let third = whole.third;
-    let fourth = whole.fourth;
-    commands::called(whole.words, name, first, second, third, fourth)
 }

@@ -1,8 +1,7 @@
--- Each request by value follows the model's, so all of them do.
+-- Each request of the sender as one value follows the model's, so all of them do.
 use mathlib.Core.Path.{◌≡◌, sym, ap, subst, ◌∙◌}
 use native.Mathlib.Omega.{arith}
 use Rattle.limits.specs.Limits.{room01}
-use Rattle.model.specs.declared.Sent.{Sent}
 use Rattle.model.specs.State.{Out}
 use Rattle.model.specs.Rings.{send}
 use Rattle.model.specs.Calls.{Open, SetReliability, SetLow, SetHigh, Write, Release, StartLifetimes, Send, ExpirePending, ExpirePendingTail, Abandon, Acknowledge, Pop, MarkAll, Ask}
@@ -14,6 +13,7 @@ use Rattle.sender.specs.Value.{state_of, Sums}
 use Rattle.sender.specs.Runs.{Follows}
 use Rattle.sender.specs.Reached.{Called, ValueRuns, YieldsBelow255, WritesReadBack}
 use Rattle.sender.proofs.Runs.{gone, leant, stayed, as_model, written_back}
+use Rattle.model.specs.Answers.{Sent}
 
 follows : (r : Request) (s s' : Sender) → Called r s s' → Follows state_of Sums r s s'
 follows (Single (Open id m)) s s' d = gone d.1.0.0

@@ -5,7 +5,6 @@ use Prim.Native.Nat.{ℕ, ◌≤◌, ◌<◌}
 use native.Mathlib.Omega.{arith}
 use Rattle.limits.specs.Limits.{Room, room01, number_max, tsns}
 use Rattle.model.specs.declared.Chunk.{Chunk}
-use Rattle.model.specs.declared.Laid.{Laid}
 use Rattle.model.specs.State.{Sender, Out, fresh, same}
 use Rattle.model.specs.Requests.{Request, serve, served}
 use Rattle.model.specs.Data.{data_chunk}
@@ -17,6 +16,7 @@ use Rattle.demands.proofs.Requests.{requests_from_fresh, every_state_served}
 use Rattle.demands.proofs.Data.{written_reads_back}
 use Rattle.outbound_queue.specs.Outbound.{Good, Does, kept_good}
 use Rattle.sender.specs.Runs.{Run, Follows, AsModel}
+use Rattle.std.specs.Prelude.{Ok}
 
 -- ---- one call, from what its function promises; K is that the counters stay sums
 
@@ -59,7 +59,7 @@ module _ {S : Type 0} (state : S → Sender) (Sums : S → Type 0) where
 -- ---- a DATA chunk of the state behind them
 
 pub written_back : (tsn number : ℕ) → tsn < tsns → number ≤ number_max → (rs : List Request) → Each TypedRequest rs → (s : Sender) → s ≡ served room01 rs (fresh tsn number)
-    → (t : ℕ) (bytes out : List ℕ) (n : ℕ) → (data_chunk t bytes out s).answer ≡ Laid.Bytes n → (c : Chunk) × ToSend t s c × ReadsBack t c bytes out n (data_chunk t bytes out s).out
+    → (t : ℕ) (bytes out : List ℕ) (n : ℕ) → (data_chunk t bytes out s).answer ≡ Ok n → (c : Chunk) × ToSend t s c × ReadsBack t c bytes out n (data_chunk t bytes out s).out
 written_back tsn number h k rs ty s e t bytes out n =
-    subst (λ (z : Sender). (data_chunk t bytes out z).answer ≡ Laid.Bytes n → (c : Chunk) × ToSend t z c × ReadsBack t c bytes out n (data_chunk t bytes out z).out) (sym e)
+    subst (λ (z : Sender). (data_chunk t bytes out z).answer ≡ Ok n → (c : Chunk) × ToSend t z c × ReadsBack t c bytes out n (data_chunk t bytes out z).out) (sym e)
     (written_reads_back room01 tsn number h k rs ty t bytes out n)

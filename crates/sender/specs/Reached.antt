@@ -1,18 +1,8 @@
--- The sender by value behind any calls and SACKs.
-use Rattle.std.specs.Prelude.{◌≡◌, List, ℕ, ◌≤◌, ◌<◌, length}
+-- The sender as one value behind any calls and SACKs.
+use Rattle.std.specs.Prelude.{◌≡◌, List, ℕ, ◌≤◌, ◌<◌, length, Some, Ok}
 use Rattle.std.proofs.Math.Option.{some}
 use Rattle.limits.specs.Limits.{room01, clock_max, number_max, tsns}
 use Rattle.model.specs.declared.Chunk.{Chunk}
-use Rattle.model.specs.declared.Done.{Done}
-use Rattle.model.specs.declared.Written.{Written}
-use Rattle.model.specs.declared.Released.{Released}
-use Rattle.model.specs.declared.Sent.{Sent}
-use Rattle.model.specs.declared.Expired.{Expired}
-use Rattle.model.specs.declared.TailExpired.{TailExpired}
-use Rattle.model.specs.declared.Abandoned.{Abandoned}
-use Rattle.model.specs.declared.Found.{Found}
-use Rattle.model.specs.declared.Laid.{Laid}
-use Rattle.model.specs.declared.Sacked.{Sacked}
 use Rattle.model.specs.State.{fresh, next_tsn}
 use Rattle.model.specs.Streams.{open_stream, set_reliability, set_low, set_high, release}
 use Rattle.model.specs.Messages.{write}
@@ -33,8 +23,9 @@ use Rattle.outbound_abandon.specs.LeanExpiry.{lean_expire, lean_expire_tail}
 use Rattle.sender.specs.declared.Sender.{Sender}
 use Rattle.sender.specs.Value.{state_of, Sums, Goes, Leans, GoesOrStays, LeansOrStays}
 use Rattle.sender.specs.Runs.{Run, AsModel}
+use Rattle.model.specs.Answers.{Done, Written, Released, Sent, Expired, TailExpired, Abandoned, Found, Sacked}
 
--- what the function of each request promises of the sender that goes in and of the one that comes back; a question gives none back
+-- what the function of each request promises of the sender before and after; a question leaves it
 abbrev pub Called : Request → (s s' : Sender) → Type 0
 Called (Single (Open id m)) s s' = (a : Done) × GoesOrStays told_done (open_stream room01 id m) s s' a
 Called (Single (SetReliability id u k v)) s s' = (a : Done) × GoesOrStays told_done (set_reliability id u k v) s s' a
@@ -57,7 +48,7 @@ Called (ReadSack p) s s' = (a : Sacked) × GoesOrStays told_sacked (sack room01 
 abbrev pub Reached : (tsn number : ℕ) → List Request → Sender → Type 0
 Reached tsn number rs s = (made : Sender) × ((state_of made ≡ fresh tsn number) × Sums made) × Run Called rs made s
 
--- behind any calls and SACKs of the sender by value its state is the model's, and so demand 3 holds of it
+-- behind any calls and SACKs of the sender as one value its state is the model's, and so demand 3 holds of it
 abbrev pub ValueRuns : Type 0
 ValueRuns = (tsn number : ℕ) → tsn < tsns → (rs : List Request) (s : Sender) → Reached tsn number rs s → AsModel tsn number rs (state_of s) (Sums s)
 
@@ -68,12 +59,12 @@ YieldsBelow255 =
     (tsn number : ℕ) → tsn < tsns → (rs : List Request) (s s' : Sender) → Reached tsn number rs s
     → (clock : ℕ) → clock ≤ clock_max → SomePending (state_of s) → length (state_of s).flight.entries < 255
     → (a : Sent) → Leans told_sent (lean_send room01 clock) (send room01 clock) s s' a
-    → (d : Chunk) × (head (state_of s).pending ≡ some d) × (a ≡ Sent.Yielded (next_tsn (state_of s)) (sent_by clock (state_of s) d))
+    → (d : Chunk) × (head (state_of s).pending ≡ some d) × (a ≡ Ok (Some (next_tsn (state_of s), sent_by clock (state_of s) d)))
 
 -- behind any calls and SACKs whose arguments fit their types, whatever is lent: where `data_chunk` answers bytes, they are the chunk of the TSN's
 -- entry, and read back as that
 abbrev pub WritesReadBack : Type 0
 WritesReadBack =
     (tsn number : ℕ) → tsn < tsns → number ≤ number_max → (rs : List Request) → Each TypedRequest rs → (s : Sender) → Reached tsn number rs s
-    → (bytes out : List ℕ) (t : ℕ) (out' : List ℕ) (n : ℕ) → record { answer = Laid.Bytes n; out = out' } ≡ data_chunk t bytes out (state_of s)
+    → (bytes out : List ℕ) (t : ℕ) (out' : List ℕ) (n : ℕ) → record { answer = Ok n; out = out' } ≡ data_chunk t bytes out (state_of s)
     → (c : Chunk) × ToSend t (state_of s) c × ReadsBack t c bytes out n out'

@@ -1,4 +1,4 @@
--- What a sender by value means; and its calls by 01's room, which is that of its cells.
+-- What a sender as one value means; and its calls by 01's room, which is that of its cells.
 use Rattle.std.specs.Prelude.{◌≡◌}
 use Rattle.std.proofs.Common.{ap, subst}
 use Rattle.limits.specs.Limits.{Room, room01}

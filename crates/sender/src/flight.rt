@@ -1,4 +1,4 @@
-// The calls on the flight of a sender by value.
+// The calls on the flight of a sender as one value.
 ghost use Rattle.std.specs.Prelude.{◌≡◌};
 ghost use Rattle.limits.specs.Limits.{room01};
 ghost use Rattle.model.specs.Flight.{acknowledge, pop, mark_all};
@@ -6,107 +6,47 @@ ghost use Rattle.model.specs.Sacks.{sack};
 ghost use Rattle.model.specs.Told.{told_found, told_sacked, tells_number};
 ghost use Rattle.sender.specs.Value.{state_of, Sums, Goes, GoesOrStays};
 ghost use Rattle.outbound_abandon.specs.LeanListing.{Lists};
-ghost use Rattle.sender_head.specs.Whole.{room_in, sender_of, Counted};
 
 use super::Sender;
-use model::{Found, Listed, Sacked};
-use sender_head::Head;
+use limits::Refusal;
+use model::Chunk;
 
-// The bytes that the entry held.
-#[derive(Clone, Copy)]
-pub struct Acked {
-    pub sender: Sender,
-    pub bytes: u32,
-}
-
-#[derive(Clone, Copy)]
-pub struct Popped {
-    pub sender: Sender,
-    pub front: Found,
-}
-
-#[derive(Clone, Copy)]
-pub struct Sacking {
-    pub sender: Sender,
-    pub answer: Sacked,
-}
-
-// The entry of a TSN is acknowledged, and holds nothing from then on.
-pub fn acknowledge(s: Sender, tsn: u32) -> Acked
-    ensures { Goes tells_number (acknowledge tsn) s result.sender result.bytes }
-{
-    let mut cells = s.cells;
-    let acked = sender_calls::flight::acknowledge(s.head, &mut cells, tsn);
-    let head = acked.head;
-    Acked {
-        sender: Sender {
-            head: head,
-            cells: cells,
-        },
-        bytes: acked.bytes,
+impl Sender {
+    // The entry of a TSN is acknowledged, and holds nothing from then on. The answer is the bytes that it held.
+    pub fn acknowledge(&mut self, tsn: u32) -> u32
+        ensures { Goes tells_number (acknowledge tsn) self.old self.new result }
+    {
+        sender_calls::flight::acknowledge(&mut self.head, &mut self.cells, tsn)
     }
-}
 
-// Takes the oldest entry, if it has this TSN.
-pub fn pop(s: Sender, tsn: u32) -> Popped
-    ensures { Goes told_found (pop tsn) s result.sender result.front }
-{
-    let cells = s.cells;
-    let rest = sender_calls::flight::pop(s.head, &cells, tsn);
-    let head = rest.head;
-    let front = rest.front;
-    Popped {
-        sender: Sender {
-            head: head,
-            cells: cells,
-        },
-        front: front,
+    // Takes the oldest entry, if it has this TSN.
+    pub fn pop(&mut self, tsn: u32) -> Option<Chunk>
+        ensures { Goes told_found (pop tsn) self.old self.new result }
+    {
+        sender_calls::flight::pop(&mut self.head, &self.cells, tsn)
     }
-}
 
-// Reads the peer's SACK, of exactly the chunk's bytes: the covered prefix is acknowledged and popped, then the blocks are acknowledged. In
-// this order: 13; stale; 14.
-pub fn handle_sack(s: Sender, packet: &[u8]) -> Sacking
-    ensures { GoesOrStays told_sacked (sack room01 packet.now) s result.sender result.answer }
-{
-    let mut cells = s.cells;
-    let sacking = sender_calls::flight::sack(s.head, &mut cells, packet);
-    let head = sacking.head;
-    let answer = sacking.answer;
-    Sacking {
-        sender: Sender {
-            head: head,
-            cells: cells,
-        },
-        answer: answer,
+    // Reads the peer's SACK, of exactly the chunk's bytes: the covered prefix is acknowledged and popped, then the blocks are acknowledged. In
+    // this order: 13; stale; 14.
+    pub fn handle_sack(&mut self, packet: &[u8]) -> Result<Option<u64>, Refusal>
+        ensures { GoesOrStays told_sacked (sack room01 packet.now) self.old self.new result }
+    {
+        sender_calls::flight::sack(&mut self.head, &mut self.cells, packet)
     }
-}
 
-// Every entry that is neither acknowledged nor abandoned is to be retransmitted.
-pub fn mark_all(s: Sender) -> Sender
-    ensures { (state_of result ≡ mark_all (state_of s)) × (Sums s → Sums result) }
-{
-    let mut cells = s.cells;
-    let head = s.head;
-    sender_calls::flight::mark_all(head, &mut cells);
-    Sender {
-        head: head,
-        cells: cells,
+    // Every entry that is neither acknowledged nor abandoned is to be retransmitted.
+    pub fn mark_all(&mut self)
+        ensures { (state_of self.new ≡ mark_all (state_of self.old)) × (Sums self.old → Sums self.new) }
+    {
+        sender_calls::flight::mark_all(&self.head, &mut self.cells)
     }
-}
 
-// Without the head that comes back: the bound of the deadlines stays as it is.
-fn expired(h: Head, cells: &[u64], clock: u64, out: &mut [u32]) -> Listed
-    ensures { Lists (Counted h cells.now) (room_in cells.now) clock h.queue.inflight.due (sender_of h cells.now) out.old out.new result }
-{
-    let found = sender_calls::flight::expired_inflight(h, cells, clock, out);
-    found.answer
-}
-
-// The TSNs in flight whose message has expired, in the front of the lent list; the rest of that stays. Refusals: 1, 11.
-pub fn expired_inflight(s: Sender, clock: u64, out: &mut [u32]) -> Listed
-    ensures { Lists (Sums s) room01 clock s.head.queue.inflight.due (state_of s) out.old out.new result }
-{
-    let cells = s.cells;
-    expired(s.head, &cells, clock, out)
+    // The TSNs in flight whose message has expired, in the front of the lent list; the rest of that stays. Refusals: 1, 11. The sender stays as
+    // it is, and with it the bound of the deadlines.
+    pub fn expired_inflight(&self, clock: u64, out: &mut [u32]) -> Result<usize, Refusal>
+        ensures { Lists (Sums self.now) room01 clock self.now.head.queue.inflight.due (state_of self.now) out.old out.new result }
+    {
+        let mut head = self.head;
+        sender_calls::flight::expired_inflight(&mut head, &self.cells, clock, out)
+    }
 }

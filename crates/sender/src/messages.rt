@@ -1,4 +1,4 @@
-// The calls on messages of a sender by value: writing, lifetimes, sending, expiry and abandonment. `Does` promises what a call does in states
+// The calls on messages of a sender as one value: writing, lifetimes, sending, expiry and abandonment. `Does` promises what a call does in states
 // that no call makes, and 01's call in every `Good` state.
 ghost use Rattle.limits.specs.Limits.{room01};
 ghost use Rattle.model.specs.Messages.{write};
@@ -9,137 +9,63 @@ ghost use Rattle.outbound_abandon.specs.Lean.{lean_abandon};
 ghost use Rattle.outbound_abandon.specs.LeanExpiry.{lean_expire, lean_expire_tail};
 ghost use Rattle.sender.specs.Value.{Leans, GoesOrStays, LeansOrStays};
 
-use super::{Changed, Sender};
-use model::{Abandoned, Expired, Sent, TailExpired, Written};
+use super::Sender;
+use limits::Refusal;
+use model::{AbandonedMessage, Chunk, ExpiredMessage, ExpiredTail};
 
-#[derive(Clone, Copy)]
-pub struct Writing {
-    pub sender: Sender,
-    pub answer: Written,
-}
-
-#[derive(Clone, Copy)]
-pub struct Sending {
-    pub sender: Sender,
-    pub answer: Sent,
-}
-
-#[derive(Clone, Copy)]
-pub struct Expiring {
-    pub sender: Sender,
-    pub answer: Expired,
-}
-
-#[derive(Clone, Copy)]
-pub struct TailExpiring {
-    pub sender: Sender,
-    pub answer: TailExpired,
-}
-
-#[derive(Clone, Copy)]
-pub struct Abandoning {
-    pub sender: Sender,
-    pub answer: Abandoned,
-}
-
-// The caller keeps the bytes: a message is where they begin and how many they are. Refusals: 3, 6, 1, 7, 8, 9.
-pub fn write(s: Sender, identifier: u16, protocol: u32, offset: u64, length: u64) -> Writing
-    ensures { GoesOrStays told_written (write room01 identifier protocol offset length) s result.sender result.answer }
-{
-    let mut cells = s.cells;
-    let writing = sender_write::write(s.head, &mut cells, identifier, protocol, offset, length);
-    let head = writing.head;
-    let answer = writing.answer;
-    Writing {
-        sender: Sender {
-            head: head,
-            cells: cells,
-        },
-        answer: answer,
+impl Sender {
+    // The caller keeps the bytes: a message is where they begin and how many they are. Refusals: 3, 6, 1, 7, 8, 9.
+    pub fn write(
+        &mut self,
+        identifier: u16,
+        protocol: u32,
+        offset: u64,
+        length: u64,
+    ) -> Result<bool, Refusal>
+        ensures { GoesOrStays told_written (write room01 identifier protocol offset length) self.old self.new result }
+    {
+        sender_write::write(
+            &mut self.head,
+            &mut self.cells,
+            identifier,
+            protocol,
+            offset,
+            length,
+        )
     }
-}
 
-// Starts the lifetimes of the messages not yet seen. Refusal: 1.
-pub fn start_lifetimes(s: Sender, clock: u64) -> Changed
-    ensures { LeansOrStays told_done (lean_start clock) (start_lifetimes clock) s result.sender result.answer }
-{
-    let mut cells = s.cells;
-    let started = sender_calls::start_lifetimes(s.head, &mut cells, clock);
-    let head = started.head;
-    let answer = started.answer;
-    Changed {
-        sender: Sender {
-            head: head,
-            cells: cells,
-        },
-        answer: answer,
+    // Starts the lifetimes of the messages not yet seen. Refusal: 1.
+    pub fn start_lifetimes(&mut self, clock: u64) -> Result<(), Refusal>
+        ensures { LeansOrStays told_done (lean_start clock) (start_lifetimes clock) self.old self.new result }
+    {
+        sender_calls::start_lifetimes(&mut self.head, &mut self.cells, clock)
     }
-}
 
-// The next chunk goes to the flight. Refusals: 1; 10 where a chunk is pending.
-pub fn send(s: Sender, clock: u64) -> Sending
-    ensures { LeansOrStays told_sent (lean_send room01 clock) (send room01 clock) s result.sender result.answer }
-{
-    let mut cells = s.cells;
-    let sending = sender_calls::send(s.head, &mut cells, clock);
-    let head = sending.head;
-    let answer = sending.answer;
-    Sending {
-        sender: Sender {
-            head: head,
-            cells: cells,
-        },
-        answer: answer,
+    // The next chunk goes to the flight. Refusals: 1; 10 where a chunk is pending.
+    pub fn send(&mut self, clock: u64) -> Result<Option<(u32, Chunk)>, Refusal>
+        ensures { LeansOrStays told_sent (lean_send room01 clock) (send room01 clock) self.old self.new result }
+    {
+        sender_calls::send(&mut self.head, &mut self.cells, clock)
     }
-}
 
-// The message at the head goes if it is due, and takes no TSN. Refusal: 1.
-pub fn expire_pending(s: Sender, clock: u64) -> Expiring
-    ensures { LeansOrStays told_expired (lean_expire clock) (expire_pending clock) s result.sender result.answer }
-{
-    let mut cells = s.cells;
-    let expiring = sender_calls::expire_pending(s.head, &mut cells, clock);
-    let head = expiring.head;
-    let answer = expiring.answer;
-    Expiring {
-        sender: Sender {
-            head: head,
-            cells: cells,
-        },
-        answer: answer,
+    // The message at the head goes if it is due, and takes no TSN. Refusal: 1.
+    pub fn expire_pending(&mut self, clock: u64) -> Result<Option<ExpiredMessage>, Refusal>
+        ensures { LeansOrStays told_expired (lean_expire clock) (expire_pending clock) self.old self.new result }
+    {
+        sender_calls::expire_pending(&mut self.head, &mut self.cells, clock)
     }
-}
 
-// Abandons the message under way, if its rest has expired. Refusal: 1.
-pub fn expire_pending_tail(s: Sender, clock: u64) -> TailExpiring
-    ensures { LeansOrStays told_tail (lean_expire_tail room01 clock) (expire_pending_tail clock) s result.sender result.answer }
-{
-    let mut cells = s.cells;
-    let tail = sender_calls::expire_pending_tail(s.head, &mut cells, clock);
-    let head = tail.head;
-    let answer = tail.answer;
-    TailExpiring {
-        sender: Sender {
-            head: head,
-            cells: cells,
-        },
-        answer: answer,
+    // Abandons the message under way, if its rest has expired. Refusal: 1.
+    pub fn expire_pending_tail(&mut self, clock: u64) -> Result<Option<ExpiredTail>, Refusal>
+        ensures { LeansOrStays told_tail (lean_expire_tail room01 clock) (expire_pending_tail clock) self.old self.new result }
+    {
+        sender_calls::expire_pending_tail(&mut self.head, &mut self.cells, clock)
     }
-}
 
-// Abandons the message of a TSN in flight.
-pub fn abandon(s: Sender, tsn: u32) -> Abandoning
-    ensures { Leans told_abandoned (lean_abandon room01 tsn) (abandon tsn) s result.sender result.answer }
-{
-    let mut cells = s.cells;
-    let abandoning = sender_calls::abandon(s.head, &mut cells, tsn);
-    let head = abandoning.head;
-    let answer = abandoning.answer;
-    Abandoning {
-        sender: Sender {
-            head: head,
-            cells: cells,
-        },
-        answer: answer,
+    // Abandons the message of a TSN in flight.
+    pub fn abandon(&mut self, tsn: u32) -> Option<AbandonedMessage>
+        ensures { Leans told_abandoned (lean_abandon room01 tsn) (abandon tsn) self.old self.new result }
+    {
+        sender_calls::abandon(&mut self.head, &mut self.cells, tsn)
     }
 }

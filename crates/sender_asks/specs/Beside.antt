@@ -1,21 +1,18 @@
 -- Questions beside 01's, which hosts missed: what each answers of the model's sender, and what the ways out of each come to. They are no calls of
 -- the model.
-use Rattle.std.specs.Prelude.{◌≡◌, refl, Bool, true, false, List, [], ◌∷◌, ℕ, ◌+◌, ◌-◌, ◌<◌, ◌≤◌, min, length, get_or, drop}
+use Rattle.std.specs.Prelude.{◌≡◌, refl, Bool, true, false, List, [], ◌∷◌, ℕ, ◌+◌, ◌-◌, ◌<◌, ◌≤◌, min, length, get_or, drop, Some, None}
 use Rattle.std.proofs.Math.Path.{sym}
 use Rattle.std.proofs.Common.{ap, ◌∙◌, arith}
 use Rattle.limits.specs.Limits.{Room}
-use Rattle.limits.specs.declared.Moment.{Moment}
-use Rattle.limits.specs.declared.Moment.TheVariants.{Absent, At}
-use Rattle.limits.specs.Moments.{earlier}
+use Rattle.limits.specs.Moments.{earlier, Moment}
 use Rattle.model.specs.declared.Chunk.{Chunk}
-use Rattle.model.specs.declared.Earliest.{Earliest}
-use Rattle.model.specs.declared.Found.{Found}
 use Rattle.model.specs.Lists.{when◌then◌else◌}
 use Rattle.model.specs.State.{Sender, at, lane_of}
 use Rattle.model.specs.Rings.{head, tsns_of}
 use Rattle.model.specs.Flight.{found, earliest}
 use Rattle.rows.specs.Turns.{read_turn, rest_none}
 use Rattle.chunk_slot.specs.Chunks.{blank_chunk}
+use Rattle.model.specs.Answers.{Found, Earliest}
 
 -- ---- the oldest TSN in flight, acknowledged or abandoned as it may be
 
@@ -26,11 +23,11 @@ abbrev pub oldest_tsn : Sender → Earliest
 oldest_tsn s = oldest_of s.flight.oldest s.flight.entries
 
 module _ (t : ℕ) {n : ℕ} where
-  pub none_flies : (l : List Chunk) → n ≡ length l → n < 1 → Earliest.Nothing ≡ oldest_of t l
+  pub none_flies : (l : List Chunk) → n ≡ length l → n < 1 → None ≡ oldest_of t l
   none_flies [] e h = refl
   none_flies (c ∷ l) e h = absurd (omega (arith, e, h))
 
-  pub oldest_flies : (l : List Chunk) → n ≡ length l → 1 ≤ n → Earliest.Tsn t ≡ oldest_of t l
+  pub oldest_flies : (l : List Chunk) → n ≡ length l → 1 ≤ n → Some t ≡ oldest_of t l
   oldest_flies [] e h = absurd (omega (arith, e, h))
   oldest_flies (c ∷ l) e h = refl
 
@@ -43,14 +40,14 @@ ring_left room u s = room.ring - length (at (lane_of u) s.pending)
 -- entry counts until it is popped
 
 abbrev pub front_deadline : Found → Moment
-front_deadline Found.Nothing = Absent
-front_deadline (Found.One c) = c.message.deadline
+front_deadline None = None
+front_deadline (Some c) = c.message.deadline
 
 unfoldable pub entry_deadline : Chunk → Moment
-entry_deadline c = when c.abandoned then Absent else c.message.deadline
+entry_deadline c = when c.abandoned then None else c.message.deadline
 
 abbrev pub soonest : List Chunk → Moment
-soonest [] = Absent
+soonest [] = None
 soonest (c ∷ l) = earlier (entry_deadline c) (soonest l)
 
 abbrev pub next_deadline : Sender → Moment
@@ -59,9 +56,9 @@ next_deadline s = earlier (front_deadline (found (head s.pending))) (soonest s.f
 -- that of an entry, as code finds it out
 module _ (c : Chunk) where
   abbrev by : (abandoned : Bool) → Moment
-  by g = when g then Absent else c.message.deadline
+  by g = when g then None else c.message.deadline
 
-  pub abandoned_none : c.abandoned ≡ true → Absent ≡ entry_deadline c
+  pub abandoned_none : c.abandoned ≡ true → None ≡ entry_deadline c
   unfolding entry_deadline
   abandoned_none e = sym (ap (λ (g : Bool). by g) e)
 
@@ -75,14 +72,14 @@ least : (x y z : ℕ) → min (min x y) z ≡ min x (min y z)
 least x y z = omega arith
 
 earlier_assoc : (a b d : Moment) → earlier (earlier a b) d ≡ earlier a (earlier b d)
-earlier_assoc Absent b d = refl
-earlier_assoc (At x) Absent d = refl
-earlier_assoc (At x) (At y) Absent = refl
-earlier_assoc (At x) (At y) (At z) = ap At (least x y z)
+earlier_assoc None b d = refl
+earlier_assoc (Some x) None d = refl
+earlier_assoc (Some x) (Some y) None = refl
+earlier_assoc (Some x) (Some y) (Some z) = ap Some (least x y z)
 
-earlier_absent : (d : Moment) → earlier d Absent ≡ d
-earlier_absent Absent = refl
-earlier_absent (At x) = refl
+earlier_absent : (d : Moment) → earlier d None ≡ d
+earlier_absent None = refl
+earlier_absent (Some x) = refl
 
 module _ (l : List Chunk) (i : ℕ) (due : Moment) where
   pub read_soonest : {c : Chunk} {own next : Moment} → c ≡ get_or l i blank_chunk → i < length l → own ≡ entry_deadline c → next ≡ earlier due own

@@ -1,4 +1,4 @@
--- Answers: what each way out of a question comes to. Beside: the questions beside 01's, which are no calls of the model. Chunks: the ways out of a
+-- Answers: what is asked of one stream. Beside: the questions beside 01's, which are no calls of the model. Chunks: the ways out of a
 -- call that writes a chunk.
 pub mod Answers
 pub mod Beside

@@ -9,20 +9,21 @@ ghost use Rattle.sender_head.specs.Whole.{room_in, sender_of};
 ghost use Rattle.sender_asks.specs.Beside.{oldest_tsn, ring_left, front_deadline, entry_deadline, soonest, next_deadline};
 
 use limits::Moment;
-use model::{Chunk, Earliest, Found};
+use model::Chunk;
 use outbound_queue::OutboundQueue;
 use ring::Ring;
 use sender_head::Head;
 
 // The oldest TSN in flight, acknowledged or abandoned as it may be.
-pub fn oldest_tsn(h: Head, cells: &[u64]) -> Earliest
-    ensures { result ≡ oldest_tsn (sender_of h cells.now) }
+pub fn oldest_tsn(h: &Head, cells: &[u64]) -> Option<u32>
+    ensures { result ≡ oldest_tsn (sender_of h.now cells.now) }
 {
     let n = super::inflight_length(h, cells);
     if n < 1 {
-        return Earliest::Nothing;
+        None
+    } else {
+        Some(h.queue.inflight.oldest)
     }
-    Earliest::Tsn(h.queue.inflight.oldest)
 }
 
 // ---- room
@@ -34,15 +35,15 @@ fn left_in(q: OutboundQueue, cells: &[u64], unordered: bool) -> usize
     let k = cells.len() / 24 * 8;
     if unordered {
         let room = cells::room(&cells[0..k]);
-        return room - ring::count(q.pending.unordered, &cells[0..k]);
+        return room - q.pending.unordered.count(&cells[0..k]);
     }
     let room = cells::room(&cells[k..k + k]);
-    room - ring::count(q.pending.ordered, &cells[k..k + k])
+    room - q.pending.ordered.count(&cells[k..k + k])
 }
 
 // How many more chunks the ring of unordered messages takes, or that of ordered ones.
-pub fn ring_room(h: Head, cells: &[u64], unordered: bool) -> usize
-    ensures { result ≡ ring_left (room_in cells.now) unordered (sender_of h cells.now) }
+pub fn ring_room(h: &Head, cells: &[u64], unordered: bool) -> usize
+    ensures { result ≡ ring_left (room_in cells.now) unordered (sender_of h.now cells.now) }
 {
     let k = sender_head::table_words(cells);
     let n = cells.len();
@@ -51,14 +52,10 @@ pub fn ring_room(h: Head, cells: &[u64], unordered: bool) -> usize
 
 // ---- deadlines
 
-fn front_deadline(front: Found) -> Moment
+fn front_deadline(front: Option<Chunk>) -> Moment
     ensures { result ≡ front_deadline front }
 {
-    let Found::One(chunk) = front else {
-        return Moment::Absent;
-    };
-    let message = chunk.message;
-    message.deadline
+    front?.message.deadline
 }
 
 // That of an entry, unless it is abandoned.
@@ -66,23 +63,18 @@ fn entry_deadline(chunk: Chunk) -> Moment
     ensures { result ≡ entry_deadline chunk }
 {
     if chunk.abandoned {
-        return Moment::Absent;
+        None
+    } else {
+        chunk.message.deadline
     }
-    let message = chunk.message;
-    message.deadline
 }
 
 fn soonest_of(ring: Ring, cells: &[u64]) -> Moment
     ensures { result ≡ soonest (held ring cells.now) }
 {
-    let n = ring::count(ring, cells);
-    let mut due = Moment::Absent;
-    let mut i = 0;
-    while i < n {
-        let chunk = ring::nth(ring, cells, i);
-        let own = entry_deadline(chunk);
-        due = due.earlier(own);
-        i += 1;
+    let mut due = None;
+    for i in 0..ring.count(cells) {
+        due = limits::earlier(due, entry_deadline(ring.nth(cells, i)));
     }
     due
 }
@@ -96,13 +88,13 @@ fn flight_deadline(q: OutboundQueue, cells: &[u64]) -> Moment
 }
 
 // The earlier of the head's deadline and of those in flight. Before it, no call finds that a message has expired.
-pub fn next_deadline(h: Head, cells: &[u64]) -> Moment
-    ensures { result ≡ next_deadline (sender_of h cells.now) }
+pub fn next_deadline(h: &Head, cells: &[u64]) -> Moment
+    ensures { result ≡ next_deadline (sender_of h.now cells.now) }
 {
     let front = super::peek_pending(h, cells);
     let first = front_deadline(front);
     let k = sender_head::table_words(cells);
     let n = cells.len();
     let flying = flight_deadline(h.queue, &cells[k..n]);
-    first.earlier(flying)
+    limits::earlier(first, flying)
 }

@@ -1,4 +1,4 @@
-// What is asked of the sender over a head by value and the lent cells: of what is pending, of the flight, of one stream (refusal: 3). Nothing
+// What is asked of the sender over a lent head and the lent cells: of what is pending, of the flight, of one stream (refusal: 3). Nothing
 // changes. Each answer is the model's (`answer` of model/specs/Calls), of every head and every cells; the two of bytes are the kept counters, and
 // the model's where these are sums (`Counted`). `beside` has the questions that 01 lacks, `chunks` those whose answer is a chunk in lent bytes.
 #![tactic(auto)]
@@ -13,149 +13,142 @@ ghost use Rattle.sender_head.specs.Whole.{sender_of, Counted};
 ghost use Rattle.model.specs.State.{in_flight, next_tsn};
 ghost use Rattle.model.specs.Streams.{find, amount, counts};
 ghost use Rattle.pending_queue.specs.Queue.{bytes_in};
+ghost use Rattle.sender_asks.specs.Answers.{open_or_not};
 ghost use Rattle.outbound_queue.specs.Calls.{chunks_of, all_chunks, count_of};
 
-use limits::NOT_OPEN;
-use model::{Amount, Earliest, Found};
+use limits::Refusal;
+use model::{Chunk, Statistics, Stream};
 use sender_head::Head;
-use stream_table::Place;
 
 // The chunk that is sent next.
-pub fn peek_pending(h: Head, cells: &[u64]) -> Found
-    ensures { result ≡ found (head (sender_of h cells.now).pending) }
+pub fn peek_pending(h: &Head, cells: &[u64]) -> Option<Chunk>
+    ensures { result ≡ found (head (sender_of h.now cells.now).pending) }
 {
     let k = sender_head::table_words(cells);
     let n = cells.len();
-    outbound_queue::asks::peek_pending(h.queue, &cells[k..n])
+    h.queue.peek_pending(&cells[k..n])
 }
 
 // The number of the next message.
-pub fn next_message(h: Head) -> u64
-    ensures { (ws : List ℕ) → result ≡ (sender_of h ws).numbers.next }
+pub fn next_message(h: &Head) -> u64
+    ensures { (ws : List ℕ) → result ≡ (sender_of h.now ws).numbers.next }
 {
-    outbound_queue::asks::next_message_id(h.queue)
+    h.queue.next_message_id()
 }
 
-pub fn pending_length(h: Head, cells: &[u64]) -> usize
-    ensures { result ≡ count_of (sender_of h cells.now).pending }
+pub fn pending_length(h: &Head, cells: &[u64]) -> usize
+    ensures { result ≡ count_of (sender_of h.now cells.now).pending }
 {
     let k = sender_head::table_words(cells);
     let n = cells.len();
-    outbound_queue::asks::pending_len(h.queue, &cells[k..n])
+    h.queue.pending_len(&cells[k..n])
 }
 
-pub fn pending_bytes(h: Head) -> u64
-    ensures { (result ≡ h.queue.pending.bytes) × ((ws : List ℕ) → Counted h ws → result ≡ bytes_in (sender_of h ws).pending) }
+pub fn pending_bytes(h: &Head) -> u64
+    ensures { (result ≡ h.now.queue.pending.bytes) × ((ws : List ℕ) → Counted h.now ws → result ≡ bytes_in (sender_of h.now ws).pending) }
 {
-    outbound_queue::asks::pending_bytes(h.queue)
+    h.queue.pending_bytes()
 }
 
 // Whether a stream has chunks pending.
-pub fn pending_contains_stream(h: Head, cells: &[u64], identifier: u16) -> bool
-    ensures { result ≡ has_stream identifier (chunks_of (sender_of h cells.now).pending) }
+pub fn pending_contains_stream(h: &Head, cells: &[u64], identifier: u16) -> bool
+    ensures { result ≡ has_stream identifier (chunks_of (sender_of h.now cells.now).pending) }
 {
     let k = sender_head::table_words(cells);
     let n = cells.len();
-    outbound_queue::asks::pending_contains_stream(h.queue, &cells[k..n], identifier)
+    h.queue.pending_contains_stream(&cells[k..n], identifier)
 }
 
 // Whether a stream has chunks pending or in flight.
-pub fn contains_stream(h: Head, cells: &[u64], identifier: u16) -> bool
-    ensures { result ≡ has_stream identifier (all_chunks (sender_of h cells.now).pending (sender_of h cells.now).flight) }
+pub fn contains_stream(h: &Head, cells: &[u64], identifier: u16) -> bool
+    ensures { result ≡ has_stream identifier (all_chunks (sender_of h.now cells.now).pending (sender_of h.now cells.now).flight) }
 {
     let k = sender_head::table_words(cells);
     let n = cells.len();
-    outbound_queue::asks::contains_stream(h.queue, &cells[k..n], identifier)
+    h.queue.contains_stream(&cells[k..n], identifier)
 }
 
 // The entry of a TSN.
-pub fn get(h: Head, cells: &[u64], tsn: u32) -> Found
-    ensures { result ≡ found (in_flight tsn (sender_of h cells.now).flight) }
+pub fn get(h: &Head, cells: &[u64], tsn: u32) -> Option<Chunk>
+    ensures { result ≡ found (in_flight tsn (sender_of h.now cells.now).flight) }
 {
     let k = sender_head::table_words(cells);
     let n = cells.len();
-    outbound_queue::asks::get(h.queue, &cells[k..n], tsn)
+    h.queue.get(&cells[k..n], tsn)
 }
 
 // No for a TSN that is not in flight.
-pub fn is_abandoned(h: Head, cells: &[u64], tsn: u32) -> bool
-    ensures { result ≡ is_abandoned (in_flight tsn (sender_of h cells.now).flight) }
+pub fn is_abandoned(h: &Head, cells: &[u64], tsn: u32) -> bool
+    ensures { result ≡ is_abandoned (in_flight tsn (sender_of h.now cells.now).flight) }
 {
     let k = sender_head::table_words(cells);
     let n = cells.len();
-    outbound_queue::asks::is_abandoned(h.queue, &cells[k..n], tsn)
+    h.queue.is_abandoned(&cells[k..n], tsn)
 }
 
 // The TSN of the next chunk that is sent.
-pub fn next_tsn(h: Head, cells: &[u64]) -> u32
-    ensures { result ≡ next_tsn (sender_of h cells.now) }
+pub fn next_tsn(h: &Head, cells: &[u64]) -> u32
+    ensures { result ≡ next_tsn (sender_of h.now cells.now) }
 {
     let k = sender_head::table_words(cells);
     let n = cells.len();
-    outbound_queue::asks::next_tsn(h.queue, &cells[k..n])
+    h.queue.next_tsn(&cells[k..n])
 }
 
-pub fn inflight_length(h: Head, cells: &[u64]) -> usize
-    ensures { result ≡ length (sender_of h cells.now).flight.entries }
+pub fn inflight_length(h: &Head, cells: &[u64]) -> usize
+    ensures { result ≡ length (sender_of h.now cells.now).flight.entries }
 {
     let k = sender_head::table_words(cells);
     let n = cells.len();
-    outbound_queue::asks::inflight_len(h.queue, &cells[k..n])
+    h.queue.inflight_len(&cells[k..n])
 }
 
-pub fn inflight_bytes(h: Head) -> u64
-    ensures { (result ≡ h.queue.inflight.bytes) × ((ws : List ℕ) → Counted h ws → result ≡ bytes (sender_of h ws).flight.entries) }
+pub fn inflight_bytes(h: &Head) -> u64
+    ensures { (result ≡ h.now.queue.inflight.bytes) × ((ws : List ℕ) → Counted h.now ws → result ≡ bytes (sender_of h.now ws).flight.entries) }
 {
-    outbound_queue::asks::inflight_bytes(h.queue)
+    h.queue.inflight_bytes()
 }
 
 // The oldest TSN that is neither acknowledged nor abandoned.
-pub fn earliest_outstanding(h: Head, cells: &[u64]) -> Earliest
-    ensures { result ≡ earliest_outstanding (sender_of h cells.now) }
+pub fn earliest_outstanding(h: &Head, cells: &[u64]) -> Option<u32>
+    ensures { result ≡ earliest_outstanding (sender_of h.now cells.now) }
 {
     let k = sender_head::table_words(cells);
     let n = cells.len();
-    outbound_queue::asks::earliest_outstanding_tsn(h.queue, &cells[k..n])
+    h.queue.earliest_outstanding_tsn(&cells[k..n])
 }
 
-pub fn buffered_amount(h: Head, cells: &[u64], identifier: u16) -> Amount
-    ensures { result ≡ amount (find identifier (sender_of h cells.now).streams) (λ t. t.buffered) }
+// ---- of one open stream
+
+fn stream_of(h: &Head, cells: &[u64], identifier: u16) -> Result<Stream, Refusal>
+    ensures { result ≡ open_or_not (find identifier (sender_of h.now cells.now).streams) }
 {
-    let place = sender_head::table::seek(h, cells, identifier);
-    let Place::At(_, found) = place else {
-        return Amount::Refused(NOT_OPEN);
-    };
-    Amount::Is(found.buffered as u64)
+    let sought = sender_head::table::seek(h, cells, identifier);
+    let (_, stream) = sought.ok_or(Refusal::NotOpen)?;
+    Ok(stream)
 }
 
-pub fn low_threshold(h: Head, cells: &[u64], identifier: u16) -> Amount
-    ensures { result ≡ amount (find identifier (sender_of h cells.now).streams) (λ t. t.low) }
+pub fn buffered_amount(h: &Head, cells: &[u64], identifier: u16) -> Result<u64, Refusal>
+    ensures { result ≡ amount (find identifier (sender_of h.now cells.now).streams) (λ t. t.buffered) }
 {
-    let place = sender_head::table::seek(h, cells, identifier);
-    let Place::At(_, found) = place else {
-        return Amount::Refused(NOT_OPEN);
-    };
-    Amount::Is(found.low)
+    Ok(stream_of(h, cells, identifier)?.buffered as u64)
 }
 
-pub fn high_threshold(h: Head, cells: &[u64], identifier: u16) -> Amount
-    ensures { result ≡ amount (find identifier (sender_of h cells.now).streams) (λ t. t.high) }
+pub fn low_threshold(h: &Head, cells: &[u64], identifier: u16) -> Result<u64, Refusal>
+    ensures { result ≡ amount (find identifier (sender_of h.now cells.now).streams) (λ t. t.low) }
 {
-    let place = sender_head::table::seek(h, cells, identifier);
-    let Place::At(_, found) = place else {
-        return Amount::Refused(NOT_OPEN);
-    };
-    Amount::Is(found.high)
+    Ok(stream_of(h, cells, identifier)?.low)
+}
+
+pub fn high_threshold(h: &Head, cells: &[u64], identifier: u16) -> Result<u64, Refusal>
+    ensures { result ≡ amount (find identifier (sender_of h.now cells.now).streams) (λ t. t.high) }
+{
+    Ok(stream_of(h, cells, identifier)?.high)
 }
 
 // Messages and bytes sent.
-pub fn statistics(h: Head, cells: &[u64], identifier: u16) -> model::Counted
-    ensures { result ≡ counts (find identifier (sender_of h cells.now).streams) }
+pub fn statistics(h: &Head, cells: &[u64], identifier: u16) -> Result<Statistics, Refusal>
+    ensures { result ≡ counts (find identifier (sender_of h.now cells.now).streams) }
 {
-    let place = sender_head::table::seek(h, cells, identifier);
-    let Place::At(_, found) = place else {
-        return model::Counted::Refused(NOT_OPEN);
-    };
-    let sent = found.statistics;
-    model::Counted::Are(sent)
+    Ok(stream_of(h, cells, identifier)?.statistics)
 }

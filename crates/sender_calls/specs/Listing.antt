@@ -4,7 +4,6 @@ use Rattle.std.specs.Prelude.{◌≡◌, List, ℕ, length}
 use Rattle.std.proofs.Common.{sym, ap, subst, ◌∙◌}
 use Rattle.limits.specs.Limits.{Room}
 use Rattle.limits.specs.Refusals.{done}
-use Rattle.model.specs.declared.Listed.{Listed}
 use Rattle.model.specs.State.{Sender}
 use Rattle.model.specs.Told.{told_listed}
 use Rattle.model.specs.Rings.{expired_inflight}
@@ -16,6 +15,7 @@ use Rattle.sender_head.specs.declared.Head.{Head}
 use Rattle.sender_head.specs.Whole.{table_words, room_in, sender_of, Counted}
 use Rattle.sender_head.specs.Calls.{Becomes}
 use Rattle.sender_head.specs.Lent.{headed, open_streams, lent_sender, lent_counted, read_sender, read_counted}
+use Rattle.model.specs.Answers.{Listed}
 
 -- the list is told, and the sender stays; a refused call leaves the head as it was
 abbrev pub Finds : Room → (now : ℕ) → Head → List ℕ → (out out' : List ℕ) → Head → Listed → Type 0

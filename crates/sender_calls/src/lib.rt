@@ -14,147 +14,77 @@ ghost use Rattle.model.specs.Told.{told_done, told_sent, told_expired, told_tail
 ghost use Rattle.sender_head.specs.Calls.{Leans, LeansOrStays};
 ghost use Rattle.sender_calls.specs.Behind.{LowersBehind};
 
-use model::{Abandoned, Done, Expired, Sent, TailExpired};
+use limits::Refusal;
+use model::{AbandonedMessage, Chunk, ExpiredMessage, ExpiredTail};
 use sender_head::Head;
 
-#[derive(Clone, Copy)]
-pub struct Started {
-    pub head: Head,
-    pub answer: Done,
-}
-
-#[derive(Clone, Copy)]
-pub struct Sending {
-    pub head: Head,
-    pub answer: Sent,
-}
-
-#[derive(Clone, Copy)]
-pub struct TailExpiring {
-    pub head: Head,
-    pub answer: TailExpired,
-}
-
-#[derive(Clone, Copy)]
-pub struct Abandoning {
-    pub head: Head,
-    pub answer: Abandoned,
-}
-
 // Starts the lifetimes of the messages not yet seen. Refusal: 1.
-pub fn start_lifetimes(h: Head, cells: &mut [u64], clock: u64) -> Started
-    ensures { LeansOrStays told_done (lean_start clock) (start_lifetimes clock) h cells.old result.head cells.new result.answer }
+pub fn start_lifetimes(h: &mut Head, cells: &mut [u64], clock: u64) -> Result<(), Refusal>
+    ensures { LeansOrStays told_done (lean_start clock) (start_lifetimes clock) h.old cells.old h.new cells.new result }
 {
     let k = sender_head::table_words(cells);
     let n = cells.len();
-    let started = outbound_send::start_timed_messages(h.queue, &mut cells[k..n], clock);
-    let queue = started.queue;
-    let answer = started.answer;
-    Started {
-        head: Head {
-            queue: queue,
-            streams: h.streams,
-        },
-        answer: answer,
-    }
+    outbound_send::start_timed_messages(&mut h.queue, &mut cells[k..n], clock)
 }
 
 // The next chunk goes to the flight. Refusals: 1; 10 where a chunk is pending.
-pub fn send(h: Head, cells: &mut [u64], clock: u64) -> Sending
-    ensures { LeansOrStays told_sent (lean_send (room_in cells.old) clock) (send (room_in cells.old) clock) h cells.old result.head cells.new result.answer }
+pub fn send(h: &mut Head, cells: &mut [u64], clock: u64) -> Result<Option<(u32, Chunk)>, Refusal>
+    ensures { LeansOrStays told_sent (lean_send (room_in cells.old) clock) (send (room_in cells.old) clock) h.old cells.old h.new cells.new result }
 {
     let k = sender_head::table_words(cells);
     let n = cells.len();
-    let sending = outbound_send::send_next(h.queue, &mut cells[k..n], clock);
-    let queue = sending.queue;
-    let answer = sending.answer;
-    Sending {
-        head: Head {
-            queue: queue,
-            streams: h.streams,
-        },
-        answer: answer,
-    }
+    outbound_send::send_next(&mut h.queue, &mut cells[k..n], clock)
 }
 
 // Abandons the message under way, if its rest has expired. Refusal: 1.
-pub fn expire_pending_tail(h: Head, cells: &mut [u64], clock: u64) -> TailExpiring
-    ensures { LeansOrStays told_tail (lean_expire_tail (room_in cells.old) clock) (expire_pending_tail clock) h cells.old result.head cells.new result.answer }
+pub fn expire_pending_tail(
+    h: &mut Head,
+    cells: &mut [u64],
+    clock: u64,
+) -> Result<Option<ExpiredTail>, Refusal>
+    ensures { LeansOrStays told_tail (lean_expire_tail (room_in cells.old) clock) (expire_pending_tail clock) h.old cells.old h.new cells.new result }
 {
     let k = sender_head::table_words(cells);
     let n = cells.len();
-    let expiring = outbound_abandon::expiry::expire_pending_tail(h.queue, &mut cells[k..n], clock);
-    let queue = expiring.queue;
-    let answer = expiring.answer;
-    TailExpiring {
-        head: Head {
-            queue: queue,
-            streams: h.streams,
-        },
-        answer: answer,
-    }
+    outbound_abandon::expiry::expire_pending_tail(&mut h.queue, &mut cells[k..n], clock)
 }
 
 // Abandons the message of a TSN in flight.
-pub fn abandon(h: Head, cells: &mut [u64], tsn: u32) -> Abandoning
-    ensures { Leans (lean_abandon (room_in cells.old) tsn) (abandon tsn) h cells.old result.head cells.new result.answer }
+pub fn abandon(h: &mut Head, cells: &mut [u64], tsn: u32) -> Option<AbandonedMessage>
+    ensures { Leans (lean_abandon (room_in cells.old) tsn) (abandon tsn) h.old cells.old h.new cells.new result }
 {
     let k = sender_head::table_words(cells);
     let n = cells.len();
-    let abandoning = outbound_abandon::abandon(h.queue, &mut cells[k..n], tsn);
-    let queue = abandoning.queue;
-    let answer = abandoning.answer;
-    Abandoning {
-        head: Head {
-            queue: queue,
-            streams: h.streams,
-        },
-        answer: answer,
-    }
-}
-
-#[derive(Clone, Copy)]
-pub struct Expiring {
-    pub head: Head,
-    pub answer: Expired,
+    outbound_abandon::abandon(&mut h.queue, &mut cells[k..n], tsn)
 }
 
 // Behind an ordered message the next SSN of its stream drops.
-fn lower_behind(h: Head, cells: &mut [u64], answer: Expired)
-    ensures { LowersBehind answer h cells.old cells.new }
+fn lower_behind(h: &Head, cells: &mut [u64], answer: Result<Option<ExpiredMessage>, Refusal>)
+    ensures { LowersBehind answer h.now cells.old cells.new }
 {
-    match answer {
-        Expired::Nothing => {}
-        Expired::Refused(_) => {}
-        Expired::Message {
-            stream,
-            unordered,
-            bytes: _,
-        } => {
-            if unordered {
-                return;
-            }
-            sender_streams::lower_next_ssn(h, cells, stream)
-        }
+    let Ok(freed) = answer else {
+        return;
+    };
+    let Some(message) = freed else {
+        return;
+    };
+    if message.unordered {
+        return;
     }
+    sender_streams::lower_next_ssn(&h, cells, message.stream)
 }
 
 // The message at the head goes if it is due, and takes no TSN. Refusal: 1.
-pub fn expire_pending(h: Head, cells: &mut [u64], clock: u64) -> Expiring
-    ensures { LeansOrStays told_expired (lean_expire clock) (expire_pending clock) h cells.old result.head cells.new result.answer }
+pub fn expire_pending(
+    h: &mut Head,
+    cells: &mut [u64],
+    clock: u64,
+) -> Result<Option<ExpiredMessage>, Refusal>
+    ensures { LeansOrStays told_expired (lean_expire clock) (expire_pending clock) h.old cells.old h.new cells.new result }
 {
     let k = sender_head::table_words(cells);
     let n = cells.len();
-    let expiring = outbound_abandon::expiry::expire_pending(h.queue, &mut cells[k..n], clock);
-    let queue = expiring.queue;
-    let answer = expiring.answer;
-    let head = Head {
-        queue: queue,
-        streams: h.streams,
-    };
-    lower_behind(head, cells, answer);
-    Expiring {
-        head: head,
-        answer: answer,
-    }
+    let expired = outbound_abandon::expiry::expire_pending(&mut h.queue, &mut cells[k..n], clock);
+    lower_behind(h, cells, expired);
+    expired
 }

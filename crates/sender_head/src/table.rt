@@ -7,43 +7,27 @@ ghost use Rattle.sender_head.specs.Calls.{Becomes, Joins};
 
 use super::Head;
 use model::Stream;
-use stream_table::Place;
-
-// Whether there was room.
-#[derive(Clone, Copy)]
-pub struct Joined {
-    pub head: Head,
-    pub done: bool,
-}
 
 // Where the stream of an identifier stands.
-pub fn seek(h: Head, cells: &[u64], identifier: u16) -> Place
-    ensures { result ≡ sought identifier (sender_of h cells.now).streams }
+pub fn seek(h: &Head, cells: &[u64], identifier: u16) -> Option<(usize, Stream)>
+    ensures { result ≡ sought identifier (sender_of h.now cells.now).streams }
 {
     let k = super::table_words(cells);
     stream_table::find(h.streams, &cells[0..k], identifier)
 }
 
 // The stream at a place is replaced. The head's numbers stay.
-pub fn replace(h: Head, cells: &mut [u64], place: usize, stream: Stream)
-    ensures { Becomes (λ s. with_streams (set s.streams place stream) s) h cells.old h cells.new }
+pub fn replace(h: &Head, cells: &mut [u64], place: usize, stream: Stream)
+    ensures { Becomes (λ s. with_streams (set s.streams place stream) s) h.now cells.old h.now cells.new }
 {
     let k = super::table_words(cells);
     stream_table::update(h.streams, &mut cells[0..k], place, stream)
 }
 
-// One more at the end, where there is room; else the head and every word stay.
-pub fn join(h: Head, cells: &mut [u64], stream: Stream) -> Joined
-    ensures { Joins stream h cells.old result.head cells.new result.done }
+// One more at the end, where there is room, which is the answer; else the head and every word stay.
+pub fn join(h: &mut Head, cells: &mut [u64], stream: Stream) -> bool
+    ensures { Joins stream h.old cells.old h.new cells.new result }
 {
     let k = super::table_words(cells);
-    let opened = stream_table::open(h.streams, &mut cells[0..k], stream);
-    let queue = h.queue;
-    Joined {
-        head: Head {
-            queue: queue,
-            streams: opened.count,
-        },
-        done: opened.done,
-    }
+    stream_table::open(&mut h.streams, &mut cells[0..k], stream)
 }

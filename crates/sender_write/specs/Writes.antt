@@ -1,22 +1,20 @@
 -- What each way out of a write comes to, of a sender that is a variable.
-use Rattle.std.specs.Prelude.{◌≡◌, refl, Bool, true, false, ◌&&◌, List, ℕ, ◌+◌, ◌≤◌, ◌<◌, length, set, leb, ltb, eqb}
+use Rattle.std.specs.Prelude.{◌≡◌, refl, Bool, true, false, ◌&&◌, List, ℕ, ◌+◌, ◌≤◌, ◌<◌, length, set, leb, ltb, eqb, Ok, Err, Some, None}
 use Rattle.std.proofs.Math.Path.{sym, ap}
 use Rattle.std.proofs.Common.{◌∙◌, lt-ltb, le-ltb}
 use Rattle.std.proofs.Math.Option.{Option}
 use Rattle.limits.specs.Limits.{Room, offset_max, number_max}
-use Rattle.limits.specs.Refusals.{beyond_limit, not_open, message_long, buffer_full, ring_full, numbers_spent}
-use Rattle.model.specs.declared.Done.{Done}
 use Rattle.model.specs.declared.Stream.{Stream}
-use Rattle.model.specs.declared.Written.{Written}
 use Rattle.model.specs.Lists.{when◌then◌else◌}
 use Rattle.model.specs.State.{Sender, Out, same, at, lane_of, with_streams}
 use Rattle.model.specs.Streams.{put}
 use Rattle.model.specs.Messages.{pieces, is_unordered, message_of, written, accepted, writing, write}
-use Rattle.stream.specs.declared.amounts.Accepted.{Accepted}
-use Rattle.stream.specs.Amounts.{overflows, rises, accepting, accepting_fits}
-use Rattle.stream_table.specs.declared.Place.TheVariants.{At, Nothing}
+use Rattle.stream.specs.Amounts.{Accepted, overflows, rises, accepting, accepting_fits}
 use Rattle.stream_table.specs.Tables.{sought, none_found, at_found, update_put}
 use Rattle.outbound_send.specs.Pushes.{queued, pushing}
+use Rattle.limits.specs.declared.Refusal.{Refusal}
+use Rattle.limits.specs.declared.Refusal.TheVariants.{BeyondLimit, NotOpen, MessageLong, BufferFull, RingFull, NumbersSpent}
+use Rattle.model.specs.Answers.{Done, Written, did}
 
 module _ (room : Room) (id p o l : ℕ) (s : Sender) where
   -- this is what the write gives back
@@ -24,18 +22,18 @@ module _ (room : Room) (id p o l : ℕ) (s : Sender) where
   Answers r = r ≡ write room id p o l s
 
   -- 3: the table has no such stream
-  pub write_closed : Nothing ≡ sought id s.streams → Answers (same (Written.Refused not_open) s)
+  pub write_closed : None ≡ sought id s.streams → Answers (same (Err NotOpen) s)
   unfolding write
   write_closed e = sym (ap (λ (f : Option Stream). writing f room p o l s) (none_found id s.streams e))
 
   -- it has the stream t, at the place i
-  module _ (i : ℕ) (t : Stream) (e : At i t ≡ sought id s.streams) where
+  module _ (i : ℕ) (t : Stream) (e : Some (i, t) ≡ sought id s.streams) where
     -- the write, by its five tests
     abbrev picks : (long far over full spent : Bool) → Out Written
     picks a b c d f =
-        when a then same (Written.Refused message_long) s else when b then same (Written.Refused beyond_limit) s else when c then same (Written.Refused buffer_full) s else
-        when d then same (Written.Refused ring_full) s else when f then same (Written.Refused numbers_spent) s else
-        record { after = accepted p o l t s; says = Written.Accepted (rises (t.buffered + l) t) }
+        when a then same (Err MessageLong) s else when b then same (Err BeyondLimit) s else when c then same (Err BufferFull) s else
+        when d then same (Err RingFull) s else when f then same (Err NumbersSpent) s else
+        record { after = accepted p o l t s; says = Ok (rises (t.buffered + l) t) }
 
     -- the message is too long
     abbrev long : Bool
@@ -58,7 +56,7 @@ module _ (room : Room) (id p o l : ℕ) (s : Sender) where
     write_is = ap (λ (f : Option Stream). writing f room p o l s) (at_found id s.streams i t e).0
 
     -- 6
-    pub write_long : room.message < l → Answers (same (Written.Refused message_long) s)
+    pub write_long : room.message < l → Answers (same (Err MessageLong) s)
     write_long h = sym (write_is ∙ ap (λ (b : Bool). picks b far (overflows l t) full spent) (lt-ltb room.message l h))
 
     module _ (short : l ≤ room.message) where
@@ -66,7 +64,7 @@ module _ (room : Room) (id p o l : ℕ) (s : Sender) where
       not_long = write_is ∙ ap (λ (b : Bool). picks b far (overflows l t) full spent) (le-ltb room.message l short)
 
       -- 1
-      pub write_far : offset_max < o → Answers (same (Written.Refused beyond_limit) s)
+      pub write_far : offset_max < o → Answers (same (Err BeyondLimit) s)
       write_far h = sym (not_long ∙ ap (λ (b : Bool). picks false b (overflows l t) full spent) (lt-ltb offset_max o h))
 
       -- `v` is what code finds of the amount
@@ -77,7 +75,7 @@ module _ (room : Room) (id p o l : ℕ) (s : Sender) where
             ∙ ap (λ (b : Bool). picks false false b full spent) (sym q)
 
         -- 7
-        pub write_over : v ≡ true → Answers (same (Written.Refused buffer_full) s)
+        pub write_over : v ≡ true → Answers (same (Err BufferFull) s)
         write_over h = sym (not_far ∙ ap (λ (b : Bool). picks false false b full spent) h)
 
         -- `j` is any number: the push gives the message the sender's next
@@ -89,13 +87,13 @@ module _ (room : Room) (id p o l : ℕ) (s : Sender) where
           -- the push, by its three tests
           abbrev pushes : (far full spent : Bool) → Out Done
           pushes a b c =
-              when a then same (Done.Refused beyond_limit) s else when b then same (Done.Refused ring_full) s else when c then same (Done.Refused numbers_spent) s else
-              record { after = queued (message_of p j t) t.maximum o l s; says = Done.Done }
+              when a then same (Err BeyondLimit) s else when b then same (Err RingFull) s else when c then same (Err NumbersSpent) s else
+              record { after = queued (message_of p j t) t.maximum o l s; says = did }
 
           -- the write, by what the push answered: a message that joined its ring counts for its stream
           abbrev turned : Done → Sender → Out Written
-          turned Done.Done z = record { after = with_streams (put (written p l t) z.streams) z; says = Written.Accepted (rises (t.buffered + l) t) }
-          turned (Done.Refused n) z = same (Written.Refused n) z
+          turned (Ok _) z = record { after = with_streams (put (written p l t) z.streams) z; says = Ok (rises (t.buffered + l) t) }
+          turned (Err n) z = same (Err n) z
 
           push_is : push ≡ pushes false full spent
           unfolding pushing
@@ -119,7 +117,7 @@ module _ (room : Room) (id p o l : ℕ) (s : Sender) where
                 ∙ sym (not_far ∙ ap (λ (b : Bool). picks false false b full spent) fits)
 
             -- 8 and 9
-            pub write_refused : {n : ℕ} → d ≡ Done.Refused n → Answers (same (Written.Refused n) z)
+            pub write_refused : {r : Refusal} → d ≡ Err r → Answers (same (Err r) z)
             write_refused h = sym (ap (λ (x : Done). turned x z) h) ∙ turn
 
             streams_stay : z.streams ≡ s.streams
@@ -131,11 +129,11 @@ module _ (room : Room) (id p o l : ℕ) (s : Sender) where
                 ∙ sym (ap (put (written p l t)) streams_stay)
 
             -- `w` is what the write makes of the stream, and `y` the sender that has `v` at the place
-            pub write_done : d ≡ Done.Done → {w : Accepted} → w ≡ accepting p l t → {y : Sender} {v : Stream} → y ≡ with_streams (set z.streams i v) z → v ≡ w.stream → Answers (record { after = y; says = Written.Accepted w.high })
+            pub write_done : d ≡ did → {w : Accepted} → w ≡ accepting p l t → {y : Sender} {v : Stream} → y ≡ with_streams (set z.streams i v) z → v ≡ w.stream → Answers (record { after = y; says = Ok w.high })
             write_done h {w} a b k =
                 let f : w ≡ record { stream = written p l t; high = rises (t.buffered + l) t } = a ∙ accepting_fits p l t (sym q ∙ fits) in
-                ap (λ (x : Sender). record { after = x; says = Written.Accepted w.high }) (b ∙ ap (λ (x : Stream). with_streams (set z.streams i x) z) k)
-                ∙ ap (λ (x : Accepted). record { after = with_streams (set z.streams i x.stream) z; says = Written.Accepted x.high }) f
-                ∙ ap (λ (x : List Stream). record { after = with_streams x z; says = Written.Accepted (rises (t.buffered + l) t) }) placed
+                ap (λ (x : Sender). record { after = x; says = Ok w.high }) (b ∙ ap (λ (x : Stream). with_streams (set z.streams i x) z) k)
+                ∙ ap (λ (x : Accepted). record { after = with_streams (set z.streams i x.stream) z; says = Ok x.high }) f
+                ∙ ap (λ (x : List Stream). record { after = with_streams x z; says = Ok (rises (t.buffered + l) t) }) placed
                 ∙ sym (ap (λ (x : Done). turned x z) h)
                 ∙ turn

@@ -1,5 +1,5 @@
 -- A stream in a slot: six words, and two are left. Every eight words mean a stream, and every stream comes back from its words.
-use Rattle.std.specs.Prelude.{◌≡◌, refl, Bool, List, ℕ, ◌+◌, ◌*◌, ◌/◌, ◌%◌, ◌≤◌, ◌<◌, get_or}
+use Rattle.std.specs.Prelude.{◌≡◌, refl, Bool, List, ℕ, ◌+◌, ◌*◌, ◌/◌, ◌%◌, ◌≤◌, ◌<◌, get_or, Option}
 use Rattle.std.proofs.Common.{sym, ap, ◌∙◌, add-zero, arith}
 use Rattle.std.proofs.Math.ListN.{get_or-eq_default}
 use Rattle.model.specs.declared.Stream.{Stream}
@@ -7,6 +7,10 @@ use Rattle.model.specs.Records.{make_stream}
 pub use Rattle.model.specs.Records.{blank_stream}
 use Rattle.cells.specs.Slots.{room_of, slots_of, slots_past, slots_get, word_at}
 use Rattle.cells.specs.Words.{low_of, high_of, bit_of, bit_at, bit_small, bit_back}
+
+-- where a stream stands, and the stream; or that there is none
+abbrev pub Place : Type 0
+Place = Option (ℕ × Stream)
 
 -- the stream of six words; the last holds identifier, maximum, SSN, kind and a bit for unordered
 unfoldable pub stream_of : (low high messages bytes amounts marks : ℕ) → Stream

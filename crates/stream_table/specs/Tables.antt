@@ -1,7 +1,7 @@
 -- The table of streams in lent cells. A caller of `find` goes on by `at_found` or `none_found`, of `update` by `update_put`, and of `open`
 -- by `pushed_room` of `rows`.
-use Rattle.std.specs.Prelude.{◌≡◌, refl, Bool, true, false, List, [], ◌∷◌, ℕ, suc, ◌+◌, ◌≤◌, ◌<◌, min, length, get_or, set, take, drop, eqb}
-use Rattle.std.proofs.Common.{sym, ap, ◌∙◌, zero-add, add-zero, add-one, arith, length-take, get_or-take, take_all, take-suc-set, eqb-true, eq-eqb, ne_eqb}
+use Rattle.std.specs.Prelude.{◌≡◌, refl, Bool, true, false, List, [], ◌∷◌, ℕ, suc, ◌+◌, ◌≤◌, ◌<◌, min, length, get_or, set, take, drop, eqb, Some, None}
+use Rattle.std.proofs.Common.{sym, ap, ◌∙◌, zero-add, add-zero, add-one, arith, length-take, get_or-take, take-suc-set, eqb-true, eq-eqb, ne_eqb}
 use Rattle.std.proofs.Math.Option.{Option, none, some}
 use Rattle.std.proofs.Math.Seq.{take-set-lt, set_out}
 use Rattle.model.specs.declared.Stream.{Stream}
@@ -10,9 +10,7 @@ use Rattle.model.specs.Streams.{find, put}
 use Rattle.rows.specs.Joins.{pushed, pushed_room, pushed_full}
 use Rattle.rows.specs.Turns.{read_turn, rest_none}
 use Rattle.cells.specs.Slots.{room_of, length_slots}
-use Rattle.stream_table.specs.Streams.{stream_in, streams, blank_stream}
-use Rattle.stream_table.specs.declared.Place.{Place}
-use Rattle.stream_table.specs.declared.Place.TheVariants.{At, Nothing}
+use Rattle.stream_table.specs.Streams.{Place, stream_in, streams, blank_stream}
 
 -- the streams in the order of opening
 abbrev pub table_of : (count : ℕ) → List ℕ → List Stream
@@ -25,27 +23,30 @@ place_of id (t ∷ l) = when eqb t.identifier id then 0 else suc (place_of id l)
 
 -- the answer of a search
 abbrev placed : Option Stream → (place : ℕ) → Place
-placed none i = Nothing
-placed (some t) i = At i t
+placed none i = None
+placed (some t) i = Some (i, t)
 
 abbrev pub sought : (identifier : ℕ) → List Stream → Place
 sought id l = placed (find id l) (place_of id l)
 
 -- ---- for callers
 
-pub none_found : (id : ℕ) (l : List Stream) → Nothing ≡ sought id l → find id l ≡ none
+pub none_found : (id : ℕ) (l : List Stream) → None ≡ sought id l → find id l ≡ none
 none_found id l e = case (find id l) refl
   where
     case : (o : Option Stream) → find id l ≡ o → find id l ≡ none
     case none q = q
-    case (some t) q = let z : Nothing ≡ At (place_of id l) t = e ∙ ap (λ (o : Option Stream). placed o (place_of id l)) q in cc
+    case (some t) q = let z : None ≡ Some (place_of id l, t) = e ∙ ap (λ (o : Option Stream). placed o (place_of id l)) q in cc
 
-pub at_found : (id : ℕ) (l : List Stream) (i : ℕ) (t : Stream) → At i t ≡ sought id l → (find id l ≡ some t) × (i ≡ place_of id l)
+pub at_found : (id : ℕ) (l : List Stream) (i : ℕ) (t : Stream) → Some (i, t) ≡ sought id l → (find id l ≡ some t) × (i ≡ place_of id l)
 at_found id l i t e = case (find id l) refl
   where
     case : (o : Option Stream) → find id l ≡ o → (find id l ≡ some t) × (i ≡ place_of id l)
-    case none q = let z : At i t ≡ Nothing = e ∙ ap (λ (o : Option Stream). placed o (place_of id l)) q in (cc, cc)
-    case (some x) q = let z : At i t ≡ At (place_of id l) x = e ∙ ap (λ (o : Option Stream). placed o (place_of id l)) q in (cc, cc)
+    case none q = let z : Some (i, t) ≡ None = e ∙ ap (λ (o : Option Stream). placed o (place_of id l)) q in (cc, cc)
+    case (some x) q =
+        let z : Some (i, t) ≡ Some (place_of id l, x) = e ∙ ap (λ (o : Option Stream). placed o (place_of id l)) q in
+        let pair : (i, t) ≡ (place_of id l, x) = cc in
+        (q ∙ sym (ap (λ (p : ℕ × Stream). some p.1) pair), ap (λ (p : ℕ × Stream). p.0) pair)
 
 -- what is found has the identifier
 pub found_identifier : (id : ℕ) (l : List Stream) (t : Stream) → find id l ≡ some t → t.identifier ≡ id
@@ -68,7 +69,7 @@ put_place t (x ∷ l) = case (eqb x.identifier t.identifier) (put_place t l)
     case false q = ap (λ (r : List Stream). x ∷ r) q
 
 -- where `find` gave the place i and the stream t, and s keeps its identifier, `update` is the model's `put`
-pub update_put : (id : ℕ) (l : List Stream) (i : ℕ) (t s : Stream) → At i t ≡ sought id l → s.identifier ≡ t.identifier → set l i s ≡ put s l
+pub update_put : (id : ℕ) (l : List Stream) (i : ℕ) (t s : Stream) → Some (i, t) ≡ sought id l → s.identifier ≡ t.identifier → set l i s ≡ put s l
 update_put id l i t s e q =
     let f = at_found id l i t e in
     let k : id ≡ s.identifier = sym (q ∙ found_identifier id l t f.0) in
@@ -86,7 +87,7 @@ Seeking id l i = sought id l ≡ placed (find id (drop i l)) (i + place_of id (d
 pub seek_start : (id : ℕ) (l : List Stream) → Seeking id l 0
 seek_start id l = ap (placed (find id l)) (sym (zero-add (place_of id l)))
 
-pub seek_none : (id : ℕ) (l : List Stream) (i : ℕ) → length l ≤ i → Seeking id l i → Nothing ≡ sought id l
+pub seek_none : (id : ℕ) (l : List Stream) (i : ℕ) → length l ≤ i → Seeking id l i → None ≡ sought id l
 seek_none id l i h v = sym (v ∙ ap (λ (r : List Stream). placed (find id r) (i + place_of id r)) (rest_none l i h))
 
 -- what the table has at an index below its length
@@ -106,8 +107,8 @@ module _ (id n : ℕ) (ws : List ℕ) (i : ℕ) {t : Stream} (q : t ≡ get_or (
   here : sought id (table_of n ws) ≡ turn (eqb t.identifier id)
   here = v ∙ ap (λ (r : List Stream). placed (find id r) (i + place_of id r)) (table_read n ws i q h)
 
-  pub seek_hit : t.identifier ≡ id → At i t ≡ sought id (table_of n ws)
-  seek_hit e = sym (here ∙ ap turn (eq-eqb t.identifier id e) ∙ ap (λ (k : ℕ). At k t) (add-zero i))
+  pub seek_hit : t.identifier ≡ id → Some (i, t) ≡ sought id (table_of n ws)
+  seek_hit e = sym (here ∙ ap turn (eq-eqb t.identifier id e) ∙ ap (λ (k : ℕ). Some (k, t)) (add-zero i))
 
   pub seek_miss : (t.identifier ≡ id → ⊥) → Seeking id (table_of n ws) (i + 1)
   seek_miss e =
@@ -136,10 +137,3 @@ pub table_full : (n : ℕ) (ws : List ℕ) (t : Stream) → room_of ws ≤ n →
 table_full n ws t h =
     let k : room_of ws ≤ length (table_of n ws) = omega (arith, length_table n ws) in
     pushed_full (room_of ws) (table_of n ws) t k
-
--- the room itself as the count means the same table as any count beyond it
-pub table_whole : (n m : ℕ) (ws : List ℕ) → m ≡ room_of ws → room_of ws ≤ n → table_of m ws ≡ table_of n ws
-table_whole n m ws e h =
-    let a : length (streams ws) ≤ n = omega (arith, length_slots stream_in ws) in
-    let b : length (streams ws) ≤ m = omega (arith, length_slots stream_in ws) in
-    take_all m (streams ws) b ∙ sym (take_all n (streams ws) a)

@@ -12,69 +12,43 @@ ghost use Rattle.stream_table.specs.Tables.{table_of, sought};
 
 use model::Stream;
 
-// Where a stream stands, and the stream.
-#[derive(Clone, Copy)]
-pub enum Place {
-    At(usize, Stream),
-    Nothing,
-}
-
-// The count behind an opening, and whether there was room.
-#[derive(Clone, Copy)]
-pub struct Opened {
-    pub count: usize,
-    pub done: bool,
-}
-
 // How many are open.
 pub fn len(count: usize, cells: &[u64]) -> usize
     ensures { result ≡ length (table_of count cells.now) }
 {
-    let room = cells::room(cells);
-    if count < room { count } else { room }
+    count.min(cells::room(cells))
 }
 
-// The first stream with the identifier.
-pub fn find(count: usize, cells: &[u64], identifier: u16) -> Place
+// The first stream with the identifier: where it stands, and the stream.
+pub fn find(count: usize, cells: &[u64], identifier: u16) -> Option<(usize, Stream)>
     ensures { result ≡ sought identifier (table_of count cells.now) }
 {
-    let n = len(count, cells);
-    let mut i = 0;
-    while i < n {
+    for i in 0..len(count, cells) {
         let stream = slot::load(cells, i);
         if stream.identifier == identifier {
-            return Place::At(i, stream);
+            return Some((i, stream));
         }
-        i += 1;
     }
-    Place::Nothing
+    None
 }
 
-// One more at the end, where there is room; else the count and every word stay.
-pub fn open(count: usize, cells: &mut [u64], stream: Stream) -> Opened
-    ensures { (table_of result.count cells.new ≡ pushed (room_of cells.old) (table_of count cells.old) stream) × (result.done ≡ ltb (length (table_of count cells.old)) (room_of cells.old)) × (result.done ≡ false → Stays count cells.old result.count cells.new) }
+// One more at the end, where there is room, which is the answer; else the count and every word stay.
+pub fn open(count: &mut usize, cells: &mut [u64], stream: Stream) -> bool
+    ensures { (table_of count.new cells.new ≡ pushed (room_of cells.old) (table_of count.old cells.old) stream) × (result ≡ ltb (length (table_of count.old cells.old)) (room_of cells.old)) × (result ≡ false → Stays count.old cells.old count.new cells.new) }
 {
-    let room = cells::room(cells);
-    if room <= count {
-        return Opened {
-            count: count,
-            done: false,
-        };
+    if cells::room(cells) <= *count {
+        return false;
     }
-    let more = count + 1;
-    slot::store(cells, count, stream);
-    Opened {
-        count: more,
-        done: true,
-    }
+    slot::store(cells, *count, stream);
+    *count += 1;
+    true
 }
 
 // The stream at a place is replaced, where there is one.
 pub fn update(count: usize, cells: &mut [u64], place: usize, stream: Stream)
     ensures { table_of count cells.new ≡ set (table_of count cells.old) place stream }
 {
-    if count <= place {
-        return;
+    if place < count {
+        slot::store(cells, place, stream);
     }
-    slot::store(cells, place, stream);
 }

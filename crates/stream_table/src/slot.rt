@@ -30,24 +30,19 @@ fn settings_of(identifier: u16, maximum: u16, ssn: u16, kind: u8, unordered: boo
 fn unpacked(low: u64, high: u64, messages: u64, bytes: u64, amounts: u64, settings: u64) -> Stream
     ensures { result ≡ stream_of low high messages bytes amounts settings }
 {
-    let reliability = Reliability {
-        kind: (settings / KIND % 256) as u8,
-        value: (amounts % HIGH) as u32,
-    };
-    let statistics = Statistics {
-        messages: messages,
-        bytes: bytes,
-    };
     Stream {
         identifier: (settings % MAXIMUM) as u16,
         maximum: (settings / MAXIMUM % 65_536) as u16,
         unordered: settings / UNORDERED % 2 == 1,
-        reliability: reliability,
+        reliability: Reliability {
+            kind: (settings / KIND % 256) as u8,
+            value: (amounts % HIGH) as u32,
+        },
         ssn: (settings / SSN % 65_536) as u16,
         buffered: (amounts / HIGH) as u32,
-        low: low,
-        high: high,
-        statistics: statistics,
+        low,
+        high,
+        statistics: Statistics { messages, bytes },
     }
 }
 
@@ -73,14 +68,12 @@ pub fn load(cells: &[u64], i: usize) -> Stream
 pub fn store(cells: &mut [u64], i: usize, stream: Stream)
     ensures { streams cells.new ≡ set (streams cells.old) i stream }
 {
-    let statistics = stream.statistics;
-    let reliability = stream.reliability;
-    let amounts = cells::pair(reliability.value, stream.buffered);
+    let amounts = cells::pair(stream.reliability.value, stream.buffered);
     let settings = settings_of(
         stream.identifier,
         stream.maximum,
         stream.ssn,
-        reliability.kind,
+        stream.reliability.kind,
         stream.unordered,
     );
     cells::write(
@@ -88,8 +81,8 @@ pub fn store(cells: &mut [u64], i: usize, stream: Stream)
         i,
         stream.low,
         stream.high,
-        statistics.messages,
-        statistics.bytes,
+        stream.statistics.messages,
+        stream.statistics.bytes,
         amounts,
         settings,
         0,

@@ -9,24 +9,18 @@ use borrow.Author.Tests.{le-ltb, ltb-false, leb-false, not-true}
 use lib.Dec.{leb, ltb, lit≤}
 use lib.ListN as ListN
 use lib.Seq.{get_or-set_same}
+use Rattle.std.specs.Prelude.{Some, None, Err}
+use Rattle.limits.specs.declared.Refusal.{Refusal}
+use Rattle.limits.specs.declared.Refusal.TheVariants.{BeyondLimit, CountFull}
 use Rattle.limits.specs.Limits.{clock_max, setting_max, count_max}
-use Rattle.limits.specs.Refusals.{beyond_limit, count_full}
 use Rattle.timer.specs.declared.Timer.{Timer}
 use Rattle.timer.specs.declared.Timer.TheVariants.{T1Init, T1Cookie, T2Shutdown, T3RTX, Reconfig, Ack}
-use Rattle.limits.specs.declared.Moment.{Moment}
-use Rattle.limits.specs.declared.Moment.TheVariants.{Absent, At}
-use Rattle.timer.specs.declared.Maximum.{Maximum}
-use Rattle.timer.specs.declared.Maximum.TheVariants.{Unlimited}
 use Rattle.timer.specs.declared.Entry.{Entry}
 use Rattle.timer.specs.declared.TimerTable.{TimerTable}
-use Rattle.timer.specs.declared.Answer.TheVariants.{Refused}
-use Rattle.timer.specs.declared.Expiry.TheVariants.{Refused as Denied}
-use Rattle.timer.specs.declared.Changed.{Changed}
-use Rattle.timer.specs.declared.Checked.{Checked}
-use Rattle.limits.specs.Moments.{passed, ahead, beyond}
-use Rattle.timer.specs.Entries.{place, idle_entry, fails_at}
+use Rattle.limits.specs.Moments.{Moment, passed, ahead, beyond}
+use Rattle.timer.specs.Entries.{Maximum, place, idle_entry, fails_at}
 use Rattle.timer.specs.Timers.{entry_of, with_entry, with_deadline, with_count, with_suppression, wait_of}
-use Rattle.timer.specs.Calls.{number_of, expiry_number, count_of, done, refused, told, denied, guarded, maximum_of, fresh, new_of, get_of, startable, started_of, expiry_of, is_expired_of}
+use Rattle.timer.specs.Calls.{Changed, Checked, number_of, expiry_number, count_of, done, refused, told, denied, guarded, maximum_of, fresh, unmade, new_of, get_of, startable, started_of, expiry_of, is_expired_of}
 use Rattle.timer.specs.Claims.{Call, set, get, next_timeout, start, restart_if_stale, stop, reset_retrans, suppress_error_count, is_expired}
 use Rattle.timer.specs.Claims.{called, after, latest, Within, PlacesAgree, SameWaits, StaysWithin, RefusalKeeps, RefusalsAreListed, CountIsKept}
 use Rattle.timer.proofs.Laws.{place_below, in_range, doubling_is, wait_below}
@@ -43,7 +37,7 @@ pub same_waits : SameWaits
 same_waits interval n rtoMax = ap (λ (i : ℕ). cond (ltb n 31) i rtoMax) (doubling_is interval n rtoMax)
 
 -- ---- the ways out of a call, each shown to have what is asked of all
-guarded_cases : (P : Changed → Type 0) (allowed : Bool) (u t : TimerTable) → (allowed ≡ true → P (done u)) → P (refused beyond_limit t) → P (guarded allowed u t)
+guarded_cases : (P : Changed → Type 0) (allowed : Bool) (u t : TimerTable) → (allowed ≡ true → P (done u)) → P (refused BeyondLimit t) → P (guarded allowed u t)
 guarded_cases P true u t given denial = given refl
 guarded_cases P false u t given denial = denial
 
@@ -58,23 +52,23 @@ module _ (t : TimerTable) (timer : Timer) where
       told true (fails_at e.maximum (e.retrans + 1)) (e.retrans + 1) (with_entry t timer (with_count e (e.retrans + 1)))
 
   expired_cases : (P : Checked → Type 0) (clock : ℕ) →
-      P (denied beyond_limit t) →
+      P (denied BeyondLimit t) →
       P (told false false (entry_of t timer).retrans t) →
       P exempt →
-      P (denied count_full t) →
+      P (denied CountFull t) →
       ((entry_of t timer).retrans < count_max → P counting) →
       P (is_expired_of t timer clock)
   expired_cases P clock late alive exempted full counted =
       clocked (leb clock clock_max) (passed clock (get_of t timer))
     where
       expiry : (suppressed atLimit : Bool) → leb count_max (entry_of t timer).retrans ≡ atLimit →
-          P (cond suppressed exempt (cond atLimit (denied count_full t) counting))
+          P (cond suppressed exempt (cond atLimit (denied CountFull t) counting))
       expiry true b e = exempted
       expiry false true e = full
       expiry false false e = counted (leb-false _ _ e)
 
       clocked : (allowed expired : Bool) →
-          P (cond allowed (cond expired (expiry_of t timer (entry_of t timer)) (told false false (entry_of t timer).retrans t)) (denied beyond_limit t))
+          P (cond allowed (cond expired (expiry_of t timer (entry_of t timer)) (told false false (entry_of t timer).retrans t)) (denied BeyondLimit t))
       clocked true true = expiry (entry_of t timer).suppressed (leb count_max (entry_of t timer).retrans) refl
       clocked true false = alive
       clocked false b = late
@@ -97,7 +91,7 @@ module _ (t : TimerTable) (s : Sound t) (timer : Timer) where
   changed e w =
       record {
         ceiling = s.ceiling;
-        each = λ other. stored t.entries (place timer) (place other) e (idle_entry Unlimited) w (s.each other);
+        each = λ other. stored t.entries (place timer) (place other) e (idle_entry None) w (s.each other);
       }
 
   with_deadline_lem : (d : Moment) → beyond latest d ≡ false → Sound (with_deadline t timer d)
@@ -113,7 +107,7 @@ module _ (t : TimerTable) (s : Sound t) (timer : Timer) where
   started now interval e =
       let range = in_range now interval e in
       let wait = wait_below t timer interval range.1 s.ceiling in
-      with_deadline_lem (At (now + wait_of t timer interval)) (le-ltb latest (now + wait_of t timer interval) (omega arith))
+      with_deadline_lem (Some (now + wait_of t timer interval)) (le-ltb latest (now + wait_of t timer interval) (omega arith))
 
   restarted : (now interval : ℕ) (ahead : Bool) → startable now interval ≡ true → Sound (cond ahead t (started_of t timer now interval))
   restarted now interval true e = s
@@ -121,8 +115,8 @@ module _ (t : TimerTable) (s : Sound t) (timer : Timer) where
 
 -- a deadline within the clock's limit is well within that of a wait
 set_timely : (d : Moment) → not (beyond clock_max d) ≡ true → beyond latest d ≡ false
-set_timely Absent e = refl
-set_timely (At x) e =
+set_timely None e = refl
+set_timely (Some x) e =
     let h : x ≤ clock_max = ltb-false clock_max x (not-true _ e) in
     le-ltb latest x (omega arith)
 
@@ -168,8 +162,8 @@ fresh_sound maxInit maxData rtoMax h =
 pub stays_within : StaysWithin
 stays_within maxInit maxData rtoMax h calls timer =
     let new =
-    guarded_cases table_sound (leb rtoMax setting_max) (fresh maxInit maxData rtoMax) (fresh Unlimited Unlimited 0)
-    (λ e. fresh_sound maxInit maxData rtoMax h) (fresh_sound Unlimited Unlimited 0 (lit≤ tt))
+    guarded_cases table_sound (leb rtoMax setting_max) (fresh maxInit maxData rtoMax) unmade
+    (λ e. fresh_sound maxInit maxData rtoMax h) (fresh_sound None None 0 (lit≤ tt))
     in
     (all_keep calls (new_of maxInit maxData rtoMax).table new).each timer
 
@@ -191,23 +185,18 @@ refusal_keeps t (suppress_error_count timer) = λ h. absurd (h refl)
 refusal_keeps t (is_expired timer clock) =
     expired_cases t timer (λ r. (expiry_number r.answer ≡ 0 → ⊥) → r.table ≡ t) clock (λ h. refl) (λ h. refl) (λ h. absurd (h refl)) (λ h. refl) (λ k h. absurd (h refl))
 
-listed_guarded : (t u : TimerTable) (allowed : Bool) (n : ℕ) → (guarded allowed u t).answer ≡ Refused n → n ≡ beyond_limit
-listed_guarded t u allowed n =
-    guarded_cases (λ r. r.answer ≡ Refused n → n ≡ beyond_limit) allowed u t (λ _ e. let z : ◌≡◌ {A = ℕ} 0 1 = cc in absurd (omega arith)) (λ e. cc)
+listed_guarded : (t u : TimerTable) (allowed : Bool) (r : Refusal) → (guarded allowed u t).answer ≡ Err r → r ≡ BeyondLimit
+listed_guarded t u allowed r =
+    guarded_cases (λ c. c.answer ≡ Err r → r ≡ BeyondLimit) allowed u t (λ _ e. absurd cc) (λ e. cc)
 
-listed_expiry : (t : TimerTable) (timer : Timer) (clock n : ℕ) → (is_expired_of t timer clock).answer ≡ Denied n → (n ≡ beyond_limit) ⊎ (n ≡ count_full)
-listed_expiry t timer clock n =
-    expired_cases t timer (λ r. r.answer ≡ Denied n → (n ≡ beyond_limit) ⊎ (n ≡ count_full)) clock
-    (λ e. inl cc)
-    (λ e. let z : ◌≡◌ {A = ℕ} 0 1 = cc in absurd (omega arith))
-    (λ e. let z : ◌≡◌ {A = ℕ} 0 1 = cc in absurd (omega arith))
-    (λ e. inr cc)
-    (λ _ e. let z : ◌≡◌ {A = ℕ} 0 1 = cc in absurd (omega arith))
+listed_expiry : (t : TimerTable) (timer : Timer) (clock : ℕ) (r : Refusal) → (is_expired_of t timer clock).answer ≡ Err r → (r ≡ BeyondLimit) ⊎ (r ≡ CountFull)
+listed_expiry t timer clock r =
+    expired_cases t timer (λ c. c.answer ≡ Err r → (r ≡ BeyondLimit) ⊎ (r ≡ CountFull)) clock (λ e. inl cc) (λ e. absurd cc) (λ e. absurd cc) (λ e. inr cc) (λ _ e. absurd cc)
 
 pub refusals_are_listed : RefusalsAreListed
 refusals_are_listed =
     record {
-      creation = λ maxInit maxData rtoMax. listed_guarded (fresh Unlimited Unlimited 0) (fresh maxInit maxData rtoMax) (leb rtoMax setting_max);
+      creation = λ maxInit maxData rtoMax. listed_guarded unmade (fresh maxInit maxData rtoMax) (leb rtoMax setting_max);
       setting = λ t timer d. listed_guarded t (with_deadline t timer d) (not (beyond clock_max d));
       starting = λ t timer now interval. listed_guarded t (started_of t timer now interval) (startable now interval);
       restarting = λ t timer now interval. listed_guarded t (cond (ahead now (get_of t timer)) t (started_of t timer now interval)) (startable now interval);
@@ -227,4 +216,4 @@ count_is_kept t timer clock six =
     retrans_of e = e.retrans
 
     same : (e : Entry) → entry_of (with_entry t timer e) timer ≡ e
-    same e = get_or-set_same t.entries (place timer) e (idle_entry Unlimited) (rw six (place_below timer))
+    same e = get_or-set_same t.entries (place timer) e (idle_entry None) (rw six (place_below timer))

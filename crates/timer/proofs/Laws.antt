@@ -1,27 +1,28 @@
 -- What the functions' proofs share: a timer's place is one of six, deadlines have a smallest, doubling up to rto_max gives the smaller of it and the whole, and no
 -- back-off is above it. Assumes nothing.
-use mathlib.Core.Path.{◌≡◌, refl, ap, ◌∙◌}
-use mathlib.Core.List.{map}
+use mathlib.Core.Path.{◌≡◌, refl, sym, ap, ◌∙◌}
+use mathlib.Core.List.{List, [], ◌∷◌, map}
 use mathlib.Core.Bool.{Bool, true, false, cond, ◌&&◌}
-use Prim.Native.Nat.{ℕ, zero, suc, ◌+◌, ◌-◌, ◌*◌, ◌^◌, ◌≤◌, ◌<◌, min}
+use Prim.Native.Nat.{ℕ, zero, suc, ◌+◌, ◌*◌, ◌^◌, ◌≤◌, ◌<◌, min}
 use native.Mathlib.Nat.{add-mul, mul_assoc, pow-suc, min-le_right, le_trans}
 use native.Mathlib.Numerals.{add-one}
 use native.Mathlib.Omega.{arith}
-use borrow.Author.Tests.{leb-true, ltb-true, ltb-false, lt-ltb, le-ltb}
+use borrow.Author.Tests.{leb-true, ltb-true, ltb-false}
 use lib.Dec.{lit<, leb, ltb, eqb}
 use lib.ListN.{get_or, drop, length}
-use lib.Seq.{drop-cons}
-use Rattle.limits.specs.Limits.{clock_max, setting_max}
+use lib.Seq.{drop-cons, set-get_or}
+use Rattle.limits.specs.Limits.{clock_max, setting_max, count_max}
 use Rattle.timer.specs.declared.Timer.{Timer}
 use Rattle.timer.specs.declared.Timer.TheVariants.{T1Init, T1Cookie, T2Shutdown, T3RTX, Reconfig, Ack}
-use Rattle.timer.specs.declared.Found.TheVariants.{Value, Nothing}
-use Rattle.limits.specs.declared.Moment.{Moment}
-use Rattle.limits.specs.declared.Moment.TheVariants.{Absent, At}
+use Rattle.std.specs.Prelude.{Some, None, Err}
+use Rattle.std.specs.List.{fold}
+use Rattle.limits.specs.declared.Refusal.TheVariants.{BeyondLimit, CountFull}
+use Rattle.timer.specs.declared.Entry.{Entry}
 use Rattle.timer.specs.declared.TimerTable.{TimerTable}
-use Rattle.limits.specs.Moments.{earlier}
-use Rattle.timer.specs.Entries.{place, order, timer_at}
-use Rattle.timer.specs.Timers.{entry_of, backoff, doubling, wait_of}
-use Rattle.timer.specs.Calls.{get_of, soonest, startable}
+use Rattle.limits.specs.Moments.{Moment, passed, earlier}
+use Rattle.timer.specs.Entries.{place, order, idle_entry, fails_at}
+use Rattle.timer.specs.Timers.{entry_of, with_entry, with_count, with_suppression, backoff, doubling, wait_of}
+use Rattle.timer.specs.Calls.{Checked, checked, denied, told, expiry, get_of, soonest, startable, is_expired_of, answer_of, left_of}
 
 pub place_below : (timer : Timer) → place timer < 6
 place_below T1Init = lit< tt
@@ -31,32 +32,18 @@ place_below T3RTX = lit< tt
 place_below Reconfig = lit< tt
 place_below Ack = lit< tt
 
-pub at_value : (i : ℕ) (timer : Timer) → timer_at i ≡ Value timer → (i < length order) × (get_or order i T1Init ≡ timer)
-at_value i timer = go (ltb i (length order)) refl
-  where
-    go : (b : Bool) → ltb i (length order) ≡ b → cond b (Value (get_or order i T1Init)) Nothing ≡ Value timer → (i < length order) × (get_or order i T1Init ≡ timer)
-    go true e h = (ltb-true i (length order) e, cc)
-    go false e h = absurd (let z : ◌≡◌ {A = ℕ} 0 1 = cc in omega arith)
-
-pub at_nothing : (i : ℕ) → timer_at i ≡ Nothing → length order ≤ i
-at_nothing i = go (ltb i (length order)) refl
-  where
-    go : (b : Bool) → ltb i (length order) ≡ b → cond b (Value (get_or order i T1Init)) Nothing ≡ Nothing → length order ≤ i
-    go true e h = absurd (let z : ◌≡◌ {A = ℕ} 0 1 = cc in omega arith)
-    go false e h = ltb-false i (length order) e
-
-pub earlier_absent : (d : Moment) → earlier d Absent ≡ d
-earlier_absent Absent = refl
-earlier_absent (At x) = refl
+pub earlier_absent : (d : Moment) → earlier d None ≡ d
+earlier_absent None = refl
+earlier_absent (Some x) = refl
 
 least : (x y z : ℕ) → min (min x y) z ≡ min x (min y z)
 least x y z = omega arith
 
 earlier_assoc : (a b d : Moment) → earlier (earlier a b) d ≡ earlier a (earlier b d)
-earlier_assoc Absent b d = refl
-earlier_assoc (At x) Absent d = refl
-earlier_assoc (At x) (At y) Absent = refl
-earlier_assoc (At x) (At y) (At z) = ap At (least x y z)
+earlier_assoc None b d = refl
+earlier_assoc (Some x) None d = refl
+earlier_assoc (Some x) (Some y) None = refl
+earlier_assoc (Some x) (Some y) (Some z) = ap Some (least x y z)
 
 -- the smallest deadline from a place on: that of the timer there, and the smallest after it
 pub one_more : (t : TimerTable) (i : ℕ) (next : Moment) → i < length order →
@@ -73,19 +60,6 @@ pub in_range : (now interval : ℕ) → startable now interval ≡ true → (now
 in_range now interval e =
     let tests = both (leb now clock_max) (leb interval setting_max) e in
     (leb-true now clock_max tests.0, leb-true interval setting_max tests.1)
-
--- with rto_max reached, doubling stops
-pub doubling_stops : (x n m : ℕ) → m ≤ x → doubling x n m ≡ m
-doubling_stops x zero m h = rw (le-ltb x m h)
-doubling_stops x (suc n) m h = rw (le-ltb x m h)
-
--- below that it ends with the count, or goes on
-pub doubling_ends : (x m : ℕ) → x < m → doubling x 0 m ≡ x
-doubling_ends x m h = rw (lt-ltb x m h)
-
-pub doubling_on : (x n m : ℕ) → x < m → 0 < n → doubling (x + x) (n - 1) m ≡ doubling x n m
-doubling_on x zero m h k = absurd (omega arith)
-doubling_on x (suc n) m h k = let e : suc n - 1 ≡ n = omega arith in rw (e, lt-ltb x m h)
 
 -- doubled once, and then n times
 twice : (x n : ℕ) → (x + x) * 2 ^ n ≡ x * 2 ^ suc n
@@ -124,3 +98,31 @@ wait_below t timer interval h k = go (eqb (place timer) (place Ack))
     go : (b : Bool) → cond b interval (backoff interval (entry_of t timer).retrans t.rto_max) ≤ setting_max
     go true = h
     go false = le_trans (backoff_below interval (entry_of t timer).retrans t.rto_max) k
+
+-- an expiry is that of the entry, which alone may change
+pub whole : (t : TimerTable) (timer : Timer) (clock : ℕ) → is_expired_of t timer clock ≡ checked (answer_of (entry_of t timer) clock) (with_entry t timer (left_of (entry_of t timer) clock))
+whole t timer clock = go (leb clock clock_max) (passed clock e.deadline) e.suppressed (leb count_max e.retrans)
+  where
+    e : Entry
+    e = entry_of t timer
+
+    same : t ≡ with_entry t timer e
+    same = λ j. record { entries = sym (set-get_or t.entries (place timer) (idle_entry None)) j; rto_max = t.rto_max }
+
+    go : (a b s n : Bool) → ◌≡◌ {A = Checked} (cond a (cond b (cond s (told true false e.retrans (with_entry t timer (with_suppression e false))) (cond n (denied CountFull t) (told true (fails_at e.maximum (e.retrans + 1)) (e.retrans + 1) (with_entry t timer (with_count e (e.retrans + 1)))))) (told false false e.retrans t)) (denied BeyondLimit t))
+        (checked
+        (cond a (cond b (cond s (expiry true false e.retrans) (cond n (Err CountFull) (expiry true (fails_at e.maximum (e.retrans + 1)) (e.retrans + 1)))) (expiry false false e.retrans)) (Err BeyondLimit))
+        (with_entry t timer (cond a (cond b (cond s (with_suppression e false) (cond n e (with_count e (e.retrans + 1)))) e) e)))
+    go false b s n = ap (denied BeyondLimit) same
+    go true false s n = ap (told false false e.retrans) same
+    go true true true n = refl
+    go true true false true = ap (denied CountFull) same
+    go true true false false = refl
+
+-- the smallest so far, and the smallest of the rest
+folded : (d : Moment) (ds : List Moment) → fold earlier d ds ≡ earlier d (soonest ds)
+folded d [] = sym (earlier_absent d)
+folded d (e ∷ ds) = folded (earlier d e) ds ∙ earlier_assoc d e (soonest ds)
+
+pub soonest_is : (ds : List Moment) → fold earlier None ds ≡ soonest ds
+soonest_is ds = folded None ds

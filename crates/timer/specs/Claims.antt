@@ -1,17 +1,13 @@
 -- What holds of the timers over any calls; `proofs/Claims.antt` proves each claim.
-use Rattle.std.specs.Prelude.{ℕ, ◌+◌, ◌≤◌, ◌≡◌, ◌⊎◌, List, [], ◌∷◌, false, cond, ltb, length}
+use Rattle.std.specs.Prelude.{ℕ, ◌+◌, ◌≤◌, ◌≡◌, ◌⊎◌, List, [], ◌∷◌, false, cond, ltb, length, Some, Err}
 use Rattle.limits.specs.Limits.{clock_max, setting_max, count_max}
-use Rattle.limits.specs.Refusals.{beyond_limit, count_full}
+use Rattle.limits.specs.declared.Refusal.{Refusal}
+use Rattle.limits.specs.declared.Refusal.TheVariants.{BeyondLimit, CountFull}
 use Rattle.timer.specs.declared.Timer.{Timer}
-use Rattle.timer.specs.declared.Found.TheVariants.{Value}
-use Rattle.limits.specs.declared.Moment.{Moment}
-use Rattle.timer.specs.declared.Maximum.{Maximum}
 use Rattle.timer.specs.declared.Entry.{Entry}
 use Rattle.timer.specs.declared.TimerTable.{TimerTable}
-use Rattle.timer.specs.declared.Answer.TheVariants.{Refused}
-use Rattle.timer.specs.declared.Expiry.TheVariants.{Refused as Denied}
-use Rattle.limits.specs.Moments.{beyond}
-use Rattle.timer.specs.Entries.{place, order, timer_at}
+use Rattle.limits.specs.Moments.{Moment, beyond}
+use Rattle.timer.specs.Entries.{Maximum, place, order, timer_at}
 use Rattle.timer.specs.Timers.{entry_of, backoff, doubling}
 use Rattle.timer.specs.Calls.{number_of, expiry_number, count_of, new_of, set_of, start_of, restart_if_stale_of, stop_of, reset_retrans_of, suppress_error_count_of, is_expired_of}
 
@@ -67,7 +63,7 @@ pub record Within (e : Entry) : Type 0 where
 
 -- the order and the places agree
 abbrev pub PlacesAgree : Type 0
-PlacesAgree = (timer : Timer) → timer_at (place timer) ≡ Value timer
+PlacesAgree = (timer : Timer) → timer_at (place timer) ≡ Some timer
 
 -- for every interval, count and rto_max, 0 too: doubling below 31, and rto_max from there on, is the back-off
 abbrev pub SameWaits : Type 0
@@ -85,11 +81,11 @@ RefusalKeeps = (t : TimerTable) (call : Call) → (heard t call ≡ 0 → ⊥) �
 
 -- a refusal is one of those that 01 lists: creation, setting, start and restart 1, an expiry 1 and 12; the other calls answer none
 pub record RefusalsAreListed : Type 0 where
-  pub creation : (maxInit maxData : Maximum) (rtoMax n : ℕ) → (new_of maxInit maxData rtoMax).answer ≡ Refused n → n ≡ beyond_limit
-  pub setting : (t : TimerTable) (timer : Timer) (d : Moment) (n : ℕ) → (set_of t timer d).answer ≡ Refused n → n ≡ beyond_limit
-  pub starting : (t : TimerTable) (timer : Timer) (now interval n : ℕ) → (start_of t timer now interval).answer ≡ Refused n → n ≡ beyond_limit
-  pub restarting : (t : TimerTable) (timer : Timer) (now interval n : ℕ) → (restart_if_stale_of t timer now interval).answer ≡ Refused n → n ≡ beyond_limit
-  pub expiring : (t : TimerTable) (timer : Timer) (clock n : ℕ) → (is_expired_of t timer clock).answer ≡ Denied n → (n ≡ beyond_limit) ⊎ (n ≡ count_full)
+  pub creation : (maxInit maxData : Maximum) (rtoMax : ℕ) (r : Refusal) → (new_of maxInit maxData rtoMax).answer ≡ Err r → r ≡ BeyondLimit
+  pub setting : (t : TimerTable) (timer : Timer) (d : Moment) (r : Refusal) → (set_of t timer d).answer ≡ Err r → r ≡ BeyondLimit
+  pub starting : (t : TimerTable) (timer : Timer) (now interval : ℕ) (r : Refusal) → (start_of t timer now interval).answer ≡ Err r → r ≡ BeyondLimit
+  pub restarting : (t : TimerTable) (timer : Timer) (now interval : ℕ) (r : Refusal) → (restart_if_stale_of t timer now interval).answer ≡ Err r → r ≡ BeyondLimit
+  pub expiring : (t : TimerTable) (timer : Timer) (clock : ℕ) (r : Refusal) → (is_expired_of t timer clock).answer ≡ Err r → (r ≡ BeyondLimit) ⊎ (r ≡ CountFull)
 
 -- the count that an expiry tells is the one that the table then holds
 abbrev pub CountIsKept : Type 0

@@ -1,16 +1,15 @@
 -- Document 01, "Leaves first": the table that holds the six timers, and the rules for one timer.
-use Rattle.std.specs.Prelude.{ℕ, zero, suc, ◌+◌, ◌*◌, ◌^◌, min, Bool, cond, ltb, eqb, get_or, set}
-use Rattle.limits.specs.declared.Moment.{Moment}
+use Rattle.std.specs.Prelude.{ℕ, zero, suc, ◌+◌, ◌*◌, ◌^◌, min, Bool, cond, ltb, eqb, get_or, set, None}
+use Rattle.limits.specs.Moments.{Moment}
 use Rattle.timer.specs.declared.Timer.{Timer}
 use Rattle.timer.specs.declared.Timer.TheVariants.{Ack}
-use Rattle.timer.specs.declared.Maximum.TheVariants.{Unlimited}
 use Rattle.timer.specs.declared.Entry.{Entry}
 use Rattle.timer.specs.Entries.{place, idle_entry}
 use Rattle.timer.specs.declared.TimerTable.{TimerTable}
 
 -- the entry of a timer
 abbrev pub entry_of : TimerTable → Timer → Entry
-entry_of t timer = get_or t.entries (place timer) (idle_entry Unlimited)
+entry_of t timer = get_or t.entries (place timer) (idle_entry None)
 
 -- the table with another entry for one timer
 abbrev pub with_entry : TimerTable → Timer → Entry → TimerTable

@@ -5,34 +5,28 @@ use mathlib.Core.Bool.{Bool, true, false, cond, not}
 use mathlib.Core.List.{List, [], ◌∷◌, map}
 use Prim.Native.Nat.{ℕ, zero, suc, ◌+◌, ◌*◌, ◌/◌, ◌%◌, ◌≤◌, ◌<◌}
 use native.Mathlib.Omega.{arith}
-use lib.Dec.{leb, eqb}
-use lib.ListN.{length, get_or, set, drop, drop_of_length-le}
+use lib.Dec.{eqb}
+use lib.ListN.{length, get_or, set, drop}
 use lib.Seq.{set-get_or, get_or-set_other}
-use borrow.Author.Tests.{lt-ltb, le-ltb, eq-eqb, ne_eqb, le-leb, lt-leb}
-use Rattle.limits.specs.Limits.{clock_max, setting_max, count_max}
-use Rattle.limits.specs.Moments.{passed, ahead, beyond, earlier}
-use Rattle.limits.specs.declared.Moment.{Moment}
+use borrow.Author.Tests.{lt-ltb, eq-eqb, le-leb}
+use Rattle.std.specs.Prelude.{Option, Some, None, Result, Ok}
+use Rattle.std.specs.Bool.{then_some}
+use Rattle.limits.specs.Limits.{clock_max, setting_max}
+use Rattle.limits.specs.Moments.{Moment, ahead, beyond, earlier}
+use Rattle.limits.specs.declared.Refusal.{Refusal}
+use Rattle.limits.specs.declared.Refusal.TheVariants.{BeyondLimit}
 use Rattle.timer.specs.declared.Timer.{Timer}
 use Rattle.timer.specs.declared.Timer.TheVariants.{T1Init}
-use Rattle.timer.specs.declared.Found.{Found}
 use Rattle.timer.specs.declared.Entry.{Entry}
-use Rattle.timer.specs.declared.Maximum.{Maximum}
-use Rattle.timer.specs.declared.Answer.{Answer}
-use Rattle.timer.specs.Entries.{place, order, timer_at, idle_entry, fails_at}
+use Rattle.timer.specs.Entries.{place, order, timer_at, idle_entry}
 use Rattle.timer.specs.declared.TimerTable.{TimerTable}
-use Rattle.timer.specs.declared.Changed.{Changed}
-use Rattle.timer.specs.declared.Checked.{Checked}
-use Rattle.timer.specs.declared.Expiry.{Expiry}
-use Rattle.timer.proofs.Laws.{one_more, earlier_absent}
-use Rattle.timer.specs.Timers.{entry_of, with_entry, with_count, with_suppression, backoff, wait_of}
-use Rattle.timer.specs.Calls.{number_of, guarded, startable, started_of, set_of, start_of, restart_if_stale_of, is_expired_of, done as changed, refused, told, denied, get_of, soonest, fresh, new_of}
+use Rattle.timer.proofs.Laws.{one_more, whole}
+use Rattle.timer.specs.Timers.{entry_of, with_entry, backoff, wait_of}
+use Rattle.timer.specs.Calls.{Changed, Checked, number_of, guarded, startable, started_of, set_of, start_of, restart_if_stale_of, is_expired_of, answer_of, left_of, done as changed, refused, denied, get_of, soonest, fresh, unmade, new_of}
 use Rattle.timer_cells.specs.Words.{is_set, moment_of, maximum_of, entry_in, entries_in, table_of, table_with, with_time, Marked}
-use Rattle.timer_cells.specs.Says.{due_of, no_due, expired_of, said_of, said_expiry, timer_in, on_timer, answer_of, left_of, Does, Changes, Checks, Gets, Makes, Creates, Expires}
+use Rattle.timer_cells.specs.Says.{due_of, no_due, expired_of, timer_in, on_timer, Stands, Does, Changes, Checks, Gets, Makes, Creates, Expires}
 use Rattle.timer_cells.specs.declared.Head.{Head}
-use Rattle.timer_cells.specs.declared.Due.{Due}
 use Rattle.timer_cells.specs.declared.Expired.{Expired}
-use Rattle.timer_cells.specs.declared.Said.{Said}
-use Rattle.timer_cells.specs.declared.SaidExpired.{SaidExpired}
 
 -- ---- three words of the list
 
@@ -58,27 +52,32 @@ put_at (a ∷ b ∷ []) i d m w h = absurd (omega arith)
 put_at (a ∷ b ∷ c ∷ ws) zero d m w h = refl
 put_at (a ∷ b ∷ c ∷ ws) (suc i) d m w h = ap (λ (r : List Entry). entry_in a b c ∷ r) (put_at ws i d m w (omega arith))
 
-get : (ws : List ℕ) (i : ℕ) (e : Entry) → i * 3 + 2 < length ws → get_or (entries_in ws) i e ≡ entry_in (get_or ws (i * 3) 0) (get_or ws (i * 3 + 1) 0) (get_or ws (i * 3 + 2) 0)
-get ws i e h =
-    let e1 : suc (tri i) ≡ i * 3 + 1 = omega (arith, tri_is i) in
-    let e2 : suc (suc (tri i)) ≡ i * 3 + 2 = omega (arith, tri_is i) in
-    get_at ws i e (omega (arith, tri_is i)) ∙ (λ j. entry_in (get_or ws (tri_is i j) 0) (get_or ws (e1 j) 0) (get_or ws (e2 j) 0))
+-- the words of timer i, which begin at a
+module _ (ws : List ℕ) (i a : ℕ) (q : a ≡ i * 3) (h : a + 2 < length ws) where
+  first : tri i ≡ a
+  first = tri_is i ∙ sym q
 
--- all three, then the deadline and the marks, and the marks alone
-pub put : (ws : List ℕ) (i d m w : ℕ) → i * 3 + 2 < length ws → entries_in (set (set (set ws (i * 3) d) (i * 3 + 1) m) (i * 3 + 2) w) ≡ set (entries_in ws) i (entry_in d m w)
-put ws i d m w h =
-    let e1 : suc (tri i) ≡ i * 3 + 1 = omega (arith, tri_is i) in
-    let e2 : suc (suc (tri i)) ≡ i * 3 + 2 = omega (arith, tri_is i) in
-    sym (λ j. entries_in (set (set (set ws (tri_is i j) d) (e1 j) m) (e2 j) w)) ∙ put_at ws i d m w (omega (arith, tri_is i))
+  second : suc (tri i) ≡ a + 1
+  second = omega (arith, tri_is i)
 
-put_two : (ws : List ℕ) (i d w : ℕ) → i * 3 + 2 < length ws → entries_in (set (set ws (i * 3) d) (i * 3 + 2) w) ≡ set (entries_in ws) i (entry_in d (get_or ws (i * 3 + 1) 0) w)
-put_two ws i d w h =
-    let q : get_or (set ws (i * 3) d) (i * 3 + 1) 0 ≡ get_or ws (i * 3 + 1) 0 = get_or-set_other ws (i * 3) (i * 3 + 1) d 0 (λ z. absurd (omega (arith, z))) in
-    ap (λ (l : List ℕ). entries_in (set l (i * 3 + 2) w)) (sym (set-get_or (set ws (i * 3) d) (i * 3 + 1) 0)) ∙ put ws i d (get_or (set ws (i * 3) d) (i * 3 + 1) 0) w h
-    ∙ ap (λ (m : ℕ). set (entries_in ws) i (entry_in d m w)) q
+  third : suc (suc (tri i)) ≡ a + 2
+  third = omega (arith, tri_is i)
 
-mark : (ws : List ℕ) (i w : ℕ) → i * 3 + 2 < length ws → entries_in (set ws (i * 3 + 2) w) ≡ set (entries_in ws) i (entry_in (get_or ws (i * 3) 0) (get_or ws (i * 3 + 1) 0) w)
-mark ws i w h = ap (λ (l : List ℕ). entries_in (set l (i * 3 + 2) w)) (sym (set-get_or ws (i * 3) 0)) ∙ put_two ws i (get_or ws (i * 3) 0) w h
+  get : (e : Entry) → get_or (entries_in ws) i e ≡ entry_in (get_or ws a 0) (get_or ws (a + 1) 0) (get_or ws (a + 2) 0)
+  get e = get_at ws i e (omega (arith, tri_is i)) ∙ (λ j. entry_in (get_or ws (first j) 0) (get_or ws (second j) 0) (get_or ws (third j) 0))
+
+  -- all three, then the deadline and the marks, and the marks alone
+  put : (d m w : ℕ) → entries_in (set (set (set ws a d) (a + 1) m) (a + 2) w) ≡ set (entries_in ws) i (entry_in d m w)
+  put d m w = sym (λ j. entries_in (set (set (set ws (first j) d) (second j) m) (third j) w)) ∙ put_at ws i d m w (omega (arith, tri_is i))
+
+  put_two : (d w : ℕ) → entries_in (set (set ws a d) (a + 2) w) ≡ set (entries_in ws) i (entry_in d (get_or ws (a + 1) 0) w)
+  put_two d w =
+      let stays : get_or (set ws a d) (a + 1) 0 ≡ get_or ws (a + 1) 0 = get_or-set_other ws a (a + 1) d 0 (λ z. absurd (omega (arith, z))) in
+      ap (λ (l : List ℕ). entries_in (set l (a + 2) w)) (sym (set-get_or (set ws a d) (a + 1) 0)) ∙ put d (get_or (set ws a d) (a + 1) 0) w
+      ∙ ap (λ (m : ℕ). set (entries_in ws) i (entry_in d m w)) stays
+
+  mark : (w : ℕ) → entries_in (set ws (a + 2) w) ≡ set (entries_in ws) i (entry_in (get_or ws a 0) (get_or ws (a + 1) 0) w)
+  mark w = ap (λ (l : List ℕ). entries_in (set l (a + 2) w)) (sym (set-get_or ws a 0)) ∙ put_two (get_or ws a 0) w
 
 -- how many timers words hold
 held : (n : ℕ) (ws : List ℕ) → length ws ≡ n * 3 → length (entries_in ws) ≡ n
@@ -106,8 +105,13 @@ all_written ws l₁ l₂ l₃ l₄ l₅ l₆ a b c d e f h q₁ q₂ q₃ q₄ q
 -- a timer that is made idle
 pub idle_is : (is : Bool) (ws : List ℕ) (i most w : ℕ) → i < 6 → length ws ≡ 18 → w ≡ cond is 1099511627776 0
     → entries_in (set (set (set ws (i * 3) 0) (i * 3 + 1) most) (i * 3 + 2) w) ≡ set (entries_in ws) i (idle_entry (maximum_of is most))
-idle_is true ws i most w h e q = put ws i 0 most w (omega arith) ∙ ap (λ (n : ℕ). set (entries_in ws) i (entry_in 0 most n)) q
-idle_is false ws i most w h e q = put ws i 0 most w (omega arith) ∙ ap (λ (n : ℕ). set (entries_in ws) i (entry_in 0 most n)) q
+idle_is true ws i most w h e q = put ws i (i * 3) refl (omega arith) 0 most w ∙ ap (λ (n : ℕ). set (entries_in ws) i (entry_in 0 most n)) q
+idle_is false ws i most w h e q = put ws i (i * 3) refl (omega arith) 0 most w ∙ ap (λ (n : ℕ). set (entries_in ws) i (entry_in 0 most n)) q
+
+-- a number, where the flag is set
+pub then_is : (is : Bool) (time : ℕ) → then_some is time ≡ moment_of is time
+then_is true time = refl
+then_is false time = refl
 
 -- ---- the timer at a place
 
@@ -120,49 +124,24 @@ named (suc (suc (suc (suc zero)))) h = refl
 named (suc (suc (suc (suc (suc zero))))) h = refl
 named (suc (suc (suc (suc (suc (suc i)))))) h = absurd (omega arith)
 
-found : (i : ℕ) → i < 6 → timer_at i ≡ Found.Value (get_or order i T1Init)
-found i h = ap (λ (b : Bool). cond b (Found.Value (get_or order i T1Init)) Found.Nothing) (lt-ltb i 6 h)
+found : (i : ℕ) → i < 6 → timer_at i ≡ Some (get_or order i T1Init)
+found i h = ap (λ (b : Bool). cond b (Some (get_or order i T1Init)) None) (lt-ltb i 6 h)
 
--- the words are those of six timers, or others
-pub six_words : {A : Type 0} (n : ℕ) (x y : A) → n ≡ 18 → cond (eqb n 18) x y ≡ x
+-- the words are those of six timers
+six_words : {A : Type 0} (n : ℕ) (x y : A) → n ≡ 18 → cond (eqb n 18) x y ≡ x
 six_words n x y h = simp (eq-eqb n 18 h)
 
-pub other_words : {A : Type 0} (n : ℕ) (x y : A) → n ≢ 18 → cond (eqb n 18) x y ≡ y
-other_words n x y h = simp (ne_eqb n 18 h)
-
-pub no_size : (n i : ℕ) → n ≢ 18 → timer_in n i ≡ Found.Nothing
-no_size n i = other_words n (timer_at i) Found.Nothing
-
--- a place beyond the six
-pub no_place : (n i : ℕ) → 6 ≤ i → timer_in n i ≡ Found.Nothing
-no_place n i h = ap (λ (x : Found). cond (eqb n 18) x Found.Nothing) (ap (λ (b : Bool). cond b (Found.Value (get_or order i T1Init)) Found.Nothing) (le-ltb i 6 h)) ∙ either (eqb n 18)
-  where
-    either : (b : Bool) → cond b Found.Nothing Found.Nothing ≡ Found.Nothing
-    either true = refl
-    either false = refl
-
--- ---- six new timers: refused, or made
-
-not_made : (c : Changed) (t : TimerTable) (d : Head) (ws : List ℕ) → c ≡ refused 1 t → (r : Said) → r ≡ said_of d 1 → Makes c d ws r.head ws r.reply
-not_made c t d ws e r q =
-    subst (λ (r : Said). Makes c d ws r.head ws r.reply) (sym q)
-    (record { said = ap (λ (c : Changed). number_of c.answer) (sym e); table = λ z. absurd (omega (arith, z)); head = λ z. refl; kept = λ z. refl })
+-- ---- six new timers, that are made
 
 module _ (d : Head) (ws : List ℕ) (hasInit : Bool) (init : ℕ) (hasData : Bool) (most rtoMax : ℕ) where
   abbrev new : Changed
   new = new_of (maximum_of hasInit init) (maximum_of hasData most) rtoMax
 
   abbrev limited : Bool → Changed
-  limited b = guarded b (fresh (maximum_of hasInit init) (maximum_of hasData most) rtoMax) (fresh Maximum.Unlimited Maximum.Unlimited 0)
+  limited b = guarded b (fresh (maximum_of hasInit init) (maximum_of hasData most) rtoMax) unmade
 
   abbrev none_made : Changed
-  none_made = refused 1 (table_of d ws)
-
-  pub no_room : length ws ≢ 18 → (r : Said) → r ≡ said_of d 1 → Creates (length ws) hasInit init hasData most rtoMax d ws r.head ws r.reply
-  no_room h = not_made (cond (eqb (length ws) 18) new none_made) (table_of d ws) d ws (other_words (length ws) new none_made h)
-
-  pub too_long : length ws ≡ 18 → setting_max < rtoMax → (r : Said) → r ≡ said_of d 1 → Creates (length ws) hasInit init hasData most rtoMax d ws r.head ws r.reply
-  too_long e h = not_made (cond (eqb (length ws) 18) new none_made) (fresh Maximum.Unlimited Maximum.Unlimited 0) d ws (six_words (length ws) new none_made e ∙ ap limited (lt-leb rtoMax setting_max h))
+  none_made = refused BeyondLimit (table_of d ws)
 
   pub made : length ws ≡ 18 → rtoMax ≤ setting_max → (d' : Head) (ws' : List ℕ) → d'.rto_max ≡ rtoMax
       → entries_in ws' ≡ (fresh (maximum_of hasInit init) (maximum_of hasData most) rtoMax).entries → Creates (length ws) hasInit init hasData most rtoMax d ws d' ws' 0
@@ -176,51 +155,16 @@ same_words : {A : Type 0} (i : ℕ) (y : A) (refusal : ℕ) (d : Head) (ws : Lis
 same_words i y refusal d ws = record { said = refl; head = refl; table = refl; others = λ n z. refl; kept = λ z. refl }
 
 module _ (d : Head) (ws : List ℕ) (i : ℕ) (call : TimerTable → Timer → Changed) where
-  abbrev after : Found → Changed
-  after f = on_timer f (call (table_of d ws)) (refused 1 (table_of d ws))
+  abbrev after : Option Timer → Changed
+  after f = on_timer f (call (table_of d ws)) (refused BeyondLimit (table_of d ws))
 
   -- whatever it answers
-  stays : (a : Answer) → after (timer_in (length ws) i) ≡ record { answer = a; table = table_of d ws } → (r : Said) → r ≡ said_of d (number_of a) → Changes (length ws) i call d ws r.head ws r.reply
-  stays a e r q =
-      subst (λ (r : Said). Changes (length ws) i call d ws r.head ws r.reply) (sym q)
-      (subst (λ (c : Changed). Does i (number_of c.answer) c.table (number_of a) d ws d ws (number_of a)) (sym e) (same_words i (number_of a) (number_of a) d ws))
+  stays : (a : Result (Unit {0}) Refusal) → after (timer_in (length ws) i) ≡ record { answer = a; table = table_of d ws } → Changes (length ws) i call d ws d ws (number_of a)
+  stays a e = subst (λ (c : Changed). Does i (number_of c.answer) c.table (number_of a) d ws d ws (number_of a)) (sym e) (same_words i (number_of a) (number_of a) d ws)
 
-  pub no_call : timer_in (length ws) i ≡ Found.Nothing → (r : Said) → r ≡ said_of d 1 → Changes (length ws) i call d ws r.head ws r.reply
-  no_call e = stays (Answer.Refused 1) (ap after e)
+-- ---- a call on the timer at place i, whose words begin at a
 
-pub no_expiry : (d : Head) (ws : List ℕ) (i clock : ℕ) → timer_in (length ws) i ≡ Found.Nothing → (r : SaidExpired) → r ≡ said_expiry d (Expiry.Refused 1) → Checks (length ws) i clock d ws r.head ws r.reply
-no_expiry d ws i clock e r q =
-    let y = expired_of (Expiry.Refused 1) in
-    subst (λ (r : SaidExpired). Checks (length ws) i clock d ws r.head ws r.reply) (sym q)
-    (subst (λ (f : Found). let c = on_timer f (λ k. is_expired_of (table_of d ws) k clock) (denied 1 (table_of d ws)) in Does i (expired_of c.answer) c.table 1 d ws d ws y) (sym e) (same_words i y 1 d ws))
-
-pub no_get : (d : Head) (ws : List ℕ) (i : ℕ) → timer_in (length ws) i ≡ Found.Nothing → (y : Due) → y ≡ no_due → Gets (length ws) i d ws y
-no_get d ws i e y q = q ∙ ap (λ (f : Found). on_timer f (λ k. due_of (get_of (table_of d ws) k)) no_due) (sym e)
-
--- an expiry is that of the entry, which alone may change
-whole : (t : TimerTable) (k : Timer) (clock : ℕ) → is_expired_of t k clock ≡ record { answer = answer_of (entry_of t k) clock; table = with_entry t k (left_of (entry_of t k) clock) }
-whole t k clock = go (leb clock clock_max) (passed clock e.deadline) e.suppressed (leb count_max e.retrans)
-  where
-    e : Entry
-    e = entry_of t k
-
-    same : t ≡ with_entry t k e
-    same = λ j. record { entries = sym (set-get_or t.entries (place k) (idle_entry Maximum.Unlimited)) j; rto_max = t.rto_max }
-
-    go : (a b s n : Bool) → ◌≡◌ {A = Checked} (cond a (cond b (cond s (told true false e.retrans (with_entry t k (with_suppression e false))) (cond n (denied 12 t) (told true (fails_at e.maximum (e.retrans + 1)) (e.retrans + 1) (with_entry t k (with_count e (e.retrans + 1)))))) (told false false e.retrans t)) (denied 1 t))
-        (record {
-          answer = cond a (cond b (cond s (Expiry.Told true false e.retrans) (cond n (Expiry.Refused 12) (Expiry.Told true (fails_at e.maximum (e.retrans + 1)) (e.retrans + 1)))) (Expiry.Told false false e.retrans)) (Expiry.Refused 1);
-          table = with_entry t k (cond a (cond b (cond s (with_suppression e false) (cond n e (with_count e (e.retrans + 1)))) e) e);
-        })
-    go false b s n = ap (denied 1) same
-    go true false s n = ap (told false false e.retrans) same
-    go true true true n = refl
-    go true true false true = ap (denied 12) same
-    go true true false false = refl
-
--- ---- a call on the timer at place i
-
-module _ (d : Head) (ws : List ℕ) (i : ℕ) (e : length ws ≡ 18) (h : i < 6) where
+module _ (d : Head) (ws : List ℕ) (i a : ℕ) (s : Stands (length ws) i a) where
   abbrev k : Timer
   k = get_or order i T1Init
 
@@ -228,56 +172,54 @@ module _ (d : Head) (ws : List ℕ) (i : ℕ) (e : length ws ≡ 18) (h : i < 6)
   t = table_of d ws
 
   abbrev marks : ℕ
-  marks = get_or ws (i * 3 + 2) 0
+  marks = get_or ws (a + 2) 0
 
   abbrev here : Entry
-  here = entry_in (get_or ws (i * 3) 0) (get_or ws (i * 3 + 1) 0) marks
+  here = entry_in (get_or ws a 0) (get_or ws (a + 1) 0) marks
 
   abbrev due : Moment
-  due = moment_of (is_set (marks / 4294967296 % 256)) (get_or ws (i * 3) 0)
+  due = moment_of (is_set (marks / 4294967296 % 256)) (get_or ws a 0)
 
-  inside : i * 3 + 2 < length ws
+  inside : a + 2 < length ws
   inside = omega arith
 
-  known : timer_in (length ws) i ≡ Found.Value k
-  known = six_words (length ws) (timer_at i) Found.Nothing e ∙ found i h
+  known : timer_in (length ws) i ≡ Some k
+  known = six_words (length ws) (timer_at i) None s.size ∙ found i s.below
 
   entry_is : entry_of t k ≡ here
-  entry_is = ap (λ (n : ℕ). get_or (entries_in ws) n (idle_entry Maximum.Unlimited)) (named i h) ∙ get ws i (idle_entry Maximum.Unlimited) inside
+  entry_is = ap (λ (n : ℕ). get_or (entries_in ws) n (idle_entry None)) (named i s.below) ∙ get ws i a s.first inside (idle_entry None)
 
   -- an entry for the one at this place
   with_is : (x : Entry) → with_entry t k x ≡ table_with d (set (entries_in ws) i x)
-  with_is x = ap (λ (n : ℕ). table_with d (set (entries_in ws) n x)) (named i h)
+  with_is x = ap (λ (n : ℕ). table_with d (set (entries_in ws) n x)) (named i s.below)
 
   -- the words of the others
-  others : (time v n : ℕ) → n / 3 ≢ i → get_or (set (set ws (i * 3) time) (i * 3 + 2) v) n 0 ≡ get_or ws n 0
-  others time v n z = get_or-set_other (set ws (i * 3) time) (i * 3 + 2) n v 0 (λ q. z (omega (arith, q))) ∙ get_or-set_other ws (i * 3) n time 0 (λ q. z (omega (arith, q)))
+  others : (time v n : ℕ) → n / 3 ≢ i → get_or (set (set ws a time) (a + 2) v) n 0 ≡ get_or ws n 0
+  others time v n z = get_or-set_other (set ws a time) (a + 2) n v 0 (λ q. z (omega (arith, q, s.first))) ∙ get_or-set_other ws a n time 0 (λ q. z (omega (arith, q, s.first)))
 
   -- ---- a change, that is done
 
   module _ (call : TimerTable → Timer → Changed) where
     -- nothing changes: refused, or nothing to do
-    pub unchanged : (a : Answer) → call t k ≡ record { answer = a; table = t } → (r : Said) → r ≡ said_of d (number_of a) → Changes (length ws) i call d ws r.head ws r.reply
-    unchanged a q = stays d ws i call a (ap (after d ws i call) known ∙ q)
+    pub unchanged : (x : Result (Unit {0}) Refusal) → call t k ≡ record { answer = x; table = t } → Changes (length ws) i call d ws d ws (number_of x)
+    unchanged x q = stays d ws i call x (ap (after d ws i call) known ∙ q)
 
     -- deadline and marks are written
-    pub written : (time v : ℕ) (f : Entry → Entry) → call t k ≡ changed (with_entry t k (f (entry_of t k))) → entry_in time (get_or ws (i * 3 + 1) 0) v ≡ f here → (r : Said) → r ≡ said_of d 0
-        → Changes (length ws) i call d ws r.head (set (set ws (i * 3) time) (i * 3 + 2) v) r.reply
-    written time v f q p r s =
-        subst (λ (r : Said). Changes (length ws) i call d ws r.head (set (set ws (i * 3) time) (i * 3 + 2) v) r.reply) (sym s)
-        (subst (λ (c : Changed). Does i (number_of c.answer) c.table 0 d ws d (set (set ws (i * 3) time) (i * 3 + 2) v) 0) (sym (ap (after d ws i call) known ∙ q))
+    pub written : (time v : ℕ) (f : Entry → Entry) → call t k ≡ changed (with_entry t k (f (entry_of t k))) → entry_in time (get_or ws (a + 1) 0) v ≡ f here
+        → Changes (length ws) i call d ws d (set (set ws a time) (a + 2) v) 0
+    written time v f q p =
+        subst (λ (c : Changed). Does i (number_of c.answer) c.table 0 d ws d (set (set ws a time) (a + 2) v) 0) (sym (ap (after d ws i call) known ∙ q))
         (record {
           said = refl;
           head = refl;
-          table = ap (table_with d) (put_two ws i time v inside ∙ ap (set (entries_in ws) i) (p ∙ ap f (sym entry_is))) ∙ sym (with_is (f (entry_of t k)));
+          table = ap (table_with d) (put_two ws i a s.first inside time v ∙ ap (set (entries_in ws) i) (p ∙ ap f (sym entry_is))) ∙ sym (with_is (f (entry_of t k)));
           others = others time v;
           kept = λ z. absurd (omega arith);
-        }))
+        })
 
     -- the marks alone
-    pub marked : (v : ℕ) (f : Entry → Entry) → call t k ≡ changed (with_entry t k (f (entry_of t k))) → Marked (λ _. f) marks v → (r : Said) → r ≡ said_of d 0
-        → Changes (length ws) i call d ws r.head (set ws (i * 3 + 2) v) r.reply
-    marked v f q p r s = subst (λ (l : List ℕ). Changes (length ws) i call d ws r.head (set l (i * 3 + 2) v) r.reply) (set-get_or ws (i * 3) 0) (written (get_or ws (i * 3) 0) v f q (p (get_or ws (i * 3) 0) (get_or ws (i * 3 + 1) 0)) r s)
+    pub marked : (v : ℕ) (f : Entry → Entry) → call t k ≡ changed (with_entry t k (f (entry_of t k))) → Marked (λ _. f) marks v → Changes (length ws) i call d ws d (set ws (a + 2) v) 0
+    marked v f q p = subst (λ (l : List ℕ). Changes (length ws) i call d ws d (set l (a + 2) v) 0) (set-get_or ws a 0) (written (get_or ws a 0) v f q (p (get_or ws a 0) (get_or ws (a + 1) 0)))
 
   -- ---- a deadline that is set
 
@@ -288,12 +230,8 @@ module _ (d : Head) (ws : List ℕ) (i : ℕ) (e : length ws ≡ 18) (h : i < 6)
     set_is : (b : Bool) → beyond clock_max u ≡ b → setting t k ≡ guarded (not b) (with_entry t k (with_time (entry_of t k) (moment_of is time))) t
     set_is b s = ap (λ (x : Bool). guarded (not x) (with_entry t k (with_time (entry_of t k) (moment_of is time))) t) (ap (beyond clock_max) (sym g) ∙ s)
 
-    pub not_set : beyond clock_max u ≡ true → (r : Said) → r ≡ said_of d 1 → Changes (length ws) i setting d ws r.head ws r.reply
-    not_set s = unchanged setting (Answer.Refused 1) (set_is true s)
-
-    pub set_to : beyond clock_max u ≡ false → (v : ℕ) → Marked (λ d e. with_time e (moment_of is d)) marks v → (r : Said) → r ≡ said_of d 0
-        → Changes (length ws) i setting d ws r.head (set (set ws (i * 3) time) (i * 3 + 2) v) r.reply
-    set_to s v p = written setting time v (λ x. with_time x (moment_of is time)) (set_is false s) (p time (get_or ws (i * 3 + 1) 0))
+    pub set_to : beyond clock_max u ≡ false → (v : ℕ) → Marked (λ d e. with_time e (moment_of is d)) marks v → Changes (length ws) i setting d ws d (set (set ws a time) (a + 2) v) 0
+    set_to s v p = written setting time v (λ x. with_time x (moment_of is time)) (set_is false s) (p time (get_or ws (a + 1) 0))
 
   -- ---- a start, and a restart: refused, needless, or a start
 
@@ -305,61 +243,59 @@ module _ (d : Head) (ws : List ℕ) (i : ℕ) (e : length ws ≡ 18) (h : i < 6)
     restarting t k = restart_if_stale_of t k clock interval
 
     wait_is : wait_of t k interval ≡ cond (eqb i 5) interval (backoff interval (marks % 4294967296) d.rto_max)
-    wait_is = λ j. cond (eqb (named i h j) 5) interval (backoff interval (entry_is j).retrans d.rto_max)
+    wait_is = λ j. cond (eqb (named i s.below j) 5) interval (backoff interval (entry_is j).retrans d.rto_max)
 
-    pub not_started : startable clock interval ≡ false → (r : Said) → r ≡ said_of d 1 → Changes (length ws) i starting d ws r.head ws r.reply
-    not_started s = unchanged starting (Answer.Refused 1) (ap (λ (b : Bool). guarded b (started_of t k clock interval) t) s)
-
-    pub started : startable clock interval ≡ true → (n v : ℕ) → n ≡ cond (eqb i 5) interval (backoff interval (marks % 4294967296) d.rto_max) → Marked (λ d e. with_time e (Moment.At d)) marks v → (r : Said) → r ≡ said_of d 0
-        → Changes (length ws) i starting d ws r.head (set (set ws (i * 3) (clock + n)) (i * 3 + 2) v) r.reply
+    pub started : startable clock interval ≡ true → (n v : ℕ) → n ≡ cond (eqb i 5) interval (backoff interval (marks % 4294967296) d.rto_max) → Marked (λ d e. with_time e (Some d)) marks v
+        → Changes (length ws) i starting d ws d (set (set ws a (clock + n)) (a + 2) v) 0
     started s n v q p =
-        written starting (clock + n) v (λ x. with_time x (Moment.At (clock + n)))
-        (ap (λ (b : Bool). guarded b (started_of t k clock interval) t) s ∙ ap (λ (n : ℕ). changed (with_entry t k (with_time (entry_of t k) (Moment.At (clock + n))))) (wait_is ∙ sym q))
-        (p (clock + n) (get_or ws (i * 3 + 1) 0))
-
-    pub not_restarted : startable clock interval ≡ false → (r : Said) → r ≡ said_of d 1 → Changes (length ws) i restarting d ws r.head ws r.reply
-    not_restarted s = unchanged restarting (Answer.Refused 1) (ap (λ (b : Bool). guarded b (cond (ahead clock (get_of t k)) t (started_of t k clock interval)) t) s)
+        written starting (clock + n) v (λ x. with_time x (Some (clock + n)))
+        (ap (λ (b : Bool). guarded b (started_of t k clock interval) t) s ∙ ap (λ (n : ℕ). changed (with_entry t k (with_time (entry_of t k) (Some (clock + n))))) (wait_is ∙ sym q))
+        (p (clock + n) (get_or ws (a + 1) 0))
 
     restart_is : (b : Bool) (u : Moment) → u ≡ due → ahead clock u ≡ b → restarting t k ≡ guarded (startable clock interval) (cond b t (started_of t k clock interval)) t
-    restart_is b u q a = ap (λ (x : Bool). guarded (startable clock interval) (cond x t (started_of t k clock interval)) t) (ap (λ (x : Entry). ahead clock x.deadline) entry_is ∙ ap (ahead clock) (sym q) ∙ a)
+    restart_is b u q x = ap (λ (x : Bool). guarded (startable clock interval) (cond x t (started_of t k clock interval)) t) (ap (λ (x : Entry). ahead clock x.deadline) entry_is ∙ ap (ahead clock) (sym q) ∙ x)
 
-    pub running : startable clock interval ≡ true → (u : Moment) → u ≡ due → ahead clock u ≡ true → (r : Said) → r ≡ said_of d 0 → Changes (length ws) i restarting d ws r.head ws r.reply
-    running s u q a = unchanged restarting Answer.Done (restart_is true u q a ∙ ap (λ (b : Bool). guarded b t t) s)
+    pub running : startable clock interval ≡ true → (u : Moment) → u ≡ due → ahead clock u ≡ true → Changes (length ws) i restarting d ws d ws 0
+    running s u q x = unchanged restarting (Ok tt) (restart_is true u q x ∙ ap (λ (b : Bool). guarded b t t) s)
 
-    pub stale : (u : Moment) → u ≡ due → ahead clock u ≡ false → (d' : Head) (ws' : List ℕ) (y : ℕ) → Changes (length ws) i starting d ws d' ws' y → Changes (length ws) i restarting d ws d' ws' y
-    stale u q a d' ws' y p =
+    -- refused by both, or a start
+    pub refused_both : startable clock interval ≡ false → restarting t k ≡ starting t k
+    refused_both s = ap (λ (b : Bool). guarded b (cond (ahead clock (get_of t k)) t (started_of t k clock interval)) t) s ∙ sym (ap (λ (b : Bool). guarded b (started_of t k clock interval) t) s)
+
+    pub started_both : (u : Moment) → u ≡ due → ahead clock u ≡ false → restarting t k ≡ starting t k
+    started_both = restart_is false
+
+    pub stale : restarting t k ≡ starting t k → (d' : Head) (ws' : List ℕ) (y : ℕ) → Changes (length ws) i starting d ws d' ws' y → Changes (length ws) i restarting d ws d' ws' y
+    stale q d' ws' y p =
         subst (λ (c : Changed). Does i (number_of c.answer) c.table y d ws d' ws' y)
-        (ap (after d ws i starting) known ∙ sym (ap (after d ws i restarting) known ∙ restart_is false u q a)) p
+        (ap (after d ws i starting) known ∙ sym (ap (after d ws i restarting) known ∙ q)) p
 
   -- ---- questions, and an expiry
 
-  pub got : (u : Moment) → u ≡ due → (y : Due) → y ≡ due_of u → Gets (length ws) i d ws y
-  got u q y s = s ∙ ap due_of (q ∙ ap (λ (x : Entry). x.deadline) (sym entry_is)) ∙ ap (λ (f : Found). on_timer f (λ k. due_of (get_of t k)) no_due) (sym known)
+  pub got : (u : Moment) → u ≡ due → Gets (length ws) i d ws (due_of u)
+  got u q = ap due_of (q ∙ ap (λ (x : Entry). x.deadline) (sym entry_is)) ∙ ap (λ (f : Option Timer). on_timer f (λ k. due_of (get_of t k)) no_due) (sym known)
 
-  abbrev asked : (clock : ℕ) → Found → Checked
-  asked clock f = on_timer f (λ k. is_expired_of t k clock) (denied 1 t)
+  abbrev asked : (clock : ℕ) → Option Timer → Checked
+  asked clock f = on_timer f (λ k. is_expired_of t k clock) (denied BeyondLimit t)
 
-  pub checked : (clock v : ℕ) (y : Expired) → Expires (get_or ws (i * 3) 0) (get_or ws (i * 3 + 1) 0) marks clock v y → Checks (length ws) i clock d ws d (set ws (i * 3 + 2) v) y
+  pub checked : (clock v : ℕ) (y : Expired) → Expires (get_or ws a 0) (get_or ws (a + 1) 0) marks clock v y → Checks (length ws) i clock d ws d (set ws (a + 2) v) y
   checked clock v y p =
       let c : asked clock (timer_in (length ws) i) ≡ record { answer = answer_of here clock; table = with_entry t k (left_of here clock) } =
       ap (asked clock) known ∙ whole t k clock ∙ (λ j. record { answer = answer_of (entry_is j) clock; table = with_entry t k (left_of (entry_is j) clock) }) in
       record {
         said = p.said ∙ ap (λ (x : Checked). expired_of x.answer) (sym c);
         head = refl;
-        table = ap (table_with d) (mark ws i v inside ∙ ap (set (entries_in ws) i) p.left) ∙ sym (with_is (left_of here clock)) ∙ ap (λ (x : Checked). x.table) (sym c);
-        others = λ n z. get_or-set_other ws (i * 3 + 2) n v 0 (λ q. z (omega (arith, q)));
-        kept = λ z. ap (λ (n : ℕ). set ws (i * 3 + 2) n) (p.kept z) ∙ set-get_or ws (i * 3 + 2) 0;
+        table = ap (table_with d) (mark ws i a s.first inside v ∙ ap (set (entries_in ws) i) p.left) ∙ sym (with_is (left_of here clock)) ∙ ap (λ (x : Checked). x.table) (sym c);
+        others = λ n z. get_or-set_other ws (a + 2) n v 0 (λ q. z (omega (arith, q, s.first)));
+        kept = λ z. ap (λ (n : ℕ). set ws (a + 2) n) (p.kept z) ∙ set-get_or ws (a + 2) 0;
       }
 
   -- the deadline that stands here, for the smallest of all
   pub next_more : (next until : Moment) → until ≡ due → earlier (earlier next until) (soonest (map (get_of t) (drop (i + 1) order))) ≡ earlier next (soonest (map (get_of t) (drop i order)))
   next_more next until q =
       ap (λ (u : Moment). earlier (earlier next u) (soonest (map (get_of t) (drop (i + 1) order)))) (q ∙ ap (λ (x : Entry). x.deadline) (sym entry_is))
-      ∙ one_more t i next h
+      ∙ one_more t i next s.below
 
 -- a head, where none matters
 abbrev pub none : Head
 none = record { rto_max = 0 }
-
-pub next_none : (t : TimerTable) (i : ℕ) (next : Moment) → 6 ≤ i → earlier next (soonest (map (get_of t) (drop i order))) ≡ next
-next_none t i next h = ap (λ (l : List Timer). earlier next (soonest (map (get_of t) l))) (drop_of_length-le order {i = i} h) ∙ earlier_absent next

@@ -1,28 +1,22 @@
 -- What each call says, of n words: the table that they mean afterwards is the model's, the reply is the model's answer, the words of the other
 -- timers stay, and a refusal leaves every word. The model's calls are those of `timer`.
-use Rattle.std.specs.Prelude.{◌≡◌, ◌≢◌, Bool, true, false, cond, List, ℕ, ◌+◌, ◌/◌, ◌≤◌, leb, eqb, get_or}
-use Rattle.limits.specs.Limits.{clock_max, count_max}
-use Rattle.limits.specs.Refusals.{done, beyond_limit, count_full}
+use Rattle.std.specs.Prelude.{◌≡◌, ◌≢◌, Bool, cond, List, ℕ, ◌*◌, ◌/◌, ◌<◌, ◌≤◌, eqb, get_or, Option, Some, None, Result, Ok, Err}
+use Rattle.limits.specs.Refusals.{done, beyond_limit, refusal_number as number}
+use Rattle.limits.specs.declared.Refusal.{Refusal}
+use Rattle.limits.specs.declared.Refusal.TheVariants.{BeyondLimit}
 use Rattle.limits.specs.Told.{Told, refusing, tells_moment, value_at, flag_at, given}
-use Rattle.limits.specs.declared.Moment.{Moment}
-use Rattle.limits.specs.Moments.{passed}
+use Rattle.limits.specs.Moments.{Moment}
 use Rattle.timer.specs.declared.Timer.{Timer}
-use Rattle.timer.specs.declared.Found.{Found}
-use Rattle.timer.specs.declared.Entry.{Entry}
-use Rattle.timer.specs.Entries.{timer_at, fails_at}
+use Rattle.timer.specs.Entries.{timer_at}
 use Rattle.timer.specs.declared.TimerTable.{TimerTable}
-use Rattle.timer.specs.declared.Changed.{Changed}
 use Rattle.timer.specs.declared.Expiry.{Expiry}
-use Rattle.timer.specs.Timers.{with_count, with_suppression}
 use Rattle.timer.specs.Told.{told_expiry}
-use Rattle.timer.specs.Calls.{number_of, done as changed, refused, denied, new_of, set_of, get_of, start_of, restart_if_stale_of, stop_of, reset_retrans_of, suppress_error_count_of, is_expired_of, next_timeout_of}
+use Rattle.timer.specs.Calls.{Changed, number_of, done as changed, refused, denied, new_of, set_of, get_of, start_of, restart_if_stale_of, stop_of, reset_retrans_of, suppress_error_count_of, is_expired_of, next_timeout_of}
+pub use Rattle.timer.specs.Calls.{answer_of, left_of}
 use Rattle.timer_cells.specs.Words.{moment_of, maximum_of, entry_in, table_of}
 use Rattle.timer_cells.specs.declared.Head.{Head}
 use Rattle.timer_cells.specs.declared.Due.{Due}
 use Rattle.timer_cells.specs.declared.Expired.{Expired}
-use Rattle.timer_cells.specs.declared.Said.{Said}
-use Rattle.timer_cells.specs.declared.SaidExpired.{SaidExpired}
-use Rattle.timer_cells.specs.declared.Step.{Step}
 
 -- ---- replies
 
@@ -38,32 +32,40 @@ due_of m = due_in (tells_moment m)
 abbrev pub no_due : Due
 no_due = due_in (refusing beyond_limit)
 
+-- what is told of a question: a deadline, or 01's number for why there is no answer
+abbrev pub due_told : Result Moment Refusal → Due
+due_told (Ok m) = due_of m
+due_told (Err r) = due_in (refusing (number r))
+
 -- 01's number, and expired, failure, count by their places
 abbrev pub expired_in : Told → Expired
 expired_in t = record { count = value_at 2 t; refusal = t.number; expired = flag_at 0 t; failure = flag_at 1 t }
 
 -- what an expiry tells, or 01's number for why it tells nothing
-abbrev pub expired_of : Expiry → Expired
+abbrev pub expired_of : Result Expiry Refusal → Expired
 expired_of a = expired_in (told_expiry a)
-
--- a reply, beside the head
-abbrev pub said_of : Head → ℕ → Said
-said_of d n = record { head = d; reply = n }
-
--- the same of an expiry
-abbrev pub said_expiry : Head → Expiry → SaidExpired
-said_expiry d a = record { head = d; reply = expired_of a }
 
 -- ---- a call on one timer
 
 -- six timers have 18 words; any other number of them holds none
-abbrev pub timer_in : (n timer : ℕ) → Found
-timer_in n timer = cond (eqb n 18) (timer_at timer) Found.Nothing
+abbrev pub timer_in : (n timer : ℕ) → Option Timer
+timer_in n timer = cond (eqb n 18) (timer_at timer) None
+
+-- where the words of a timer begin: there are 18, and it is one of the six
+pub record Stands (n timer at : ℕ) : Type 0 where
+  pub size : n ≡ 18
+  pub below : timer < 6
+  pub first : at ≡ timer * 3
+
+-- there are other words, or there is no such timer
+pub record Missing (n timer : ℕ) (r : Refusal) : Type 0 where
+  pub beyond : r ≡ BeyondLimit
+  pub none : timer_in n timer ≡ None
 
 -- what a call does on a timer, or else where there is none
-abbrev pub on_timer : {A : Type 0} → Found → (Timer → A) → A → A
-on_timer (Found.Value k) call none = call k
-on_timer Found.Nothing call none = none
+abbrev pub on_timer : {A : Type 0} → Option Timer → (Timer → A) → A → A
+on_timer (Some k) call none = call k
+on_timer None call none = none
 
 -- a call on the timer at a place has this answer and leaves this table; the words of the other timers stay, and where it is refused every word
 pub record Does {A : Type 0} (timer : ℕ) (answer : A) (after : TimerTable) (refusal : ℕ) (d : Head) (ws : List ℕ) (d' : Head) (ws' : List ℕ) (y : A) : Type 0 where
@@ -76,7 +78,7 @@ pub record Does {A : Type 0} (timer : ℕ) (answer : A) (after : TimerTable) (re
 -- a call of the model that changes one timer, or is refused
 abbrev pub Changes : (n timer : ℕ) → (TimerTable → Timer → Changed) → Head → List ℕ → Head → List ℕ → (y : ℕ) → Type 0
 Changes n timer call d ws d' ws' y =
-    let c = on_timer (timer_in n timer) (call (table_of d ws)) (refused beyond_limit (table_of d ws)) in
+    let c = on_timer (timer_in n timer) (call (table_of d ws)) (refused BeyondLimit (table_of d ws)) in
     Does timer (number_of c.answer) c.table y d ws d' ws' y
 
 -- ---- the calls
@@ -108,7 +110,7 @@ Suppresses n timer = Changes n timer (λ t k. changed (suppress_error_count_of t
 -- whether a timer is expired: asking counts
 abbrev pub Checks : (n timer clock : ℕ) → Head → List ℕ → Head → List ℕ → Expired → Type 0
 Checks n timer clock d ws d' ws' y =
-    let c = on_timer (timer_in n timer) (λ k. is_expired_of (table_of d ws) k clock) (denied beyond_limit (table_of d ws)) in
+    let c = on_timer (timer_in n timer) (λ k. is_expired_of (table_of d ws) k clock) (denied BeyondLimit (table_of d ws)) in
     Does timer (expired_of c.answer) c.table y.refusal d ws d' ws' y
 
 -- the deadline of a timer
@@ -129,35 +131,11 @@ pub record Makes (c : Changed) (d : Head) (ws : List ℕ) (d' : Head) (ws' : Lis
 -- creation, with the maxima of the init and the data retransmissions
 abbrev pub Creates : (n : ℕ) → (hasInit : Bool) → (init : ℕ) → (hasData : Bool) → (most rtoMax : ℕ) → Head → List ℕ → Head → List ℕ → ℕ → Type 0
 Creates n hasInit init hasData most rtoMax d ws =
-    Makes (cond (eqb n 18) (new_of (maximum_of hasInit init) (maximum_of hasData most) rtoMax) (refused beyond_limit (table_of d ws))) d ws
+    Makes (cond (eqb n 18) (new_of (maximum_of hasInit init) (maximum_of hasData most) rtoMax) (refused BeyondLimit (table_of d ws))) d ws
 
 -- ---- the expiry of one timer
 
--- what it answers: 1 where the clock is beyond its limit; nothing before the deadline; a suppressed one counts nothing; 12 where the count is full
-abbrev pub answer_of : Entry → (clock : ℕ) → Expiry
-answer_of e clock =
-    cond (leb clock clock_max)
-    (cond (passed clock e.deadline)
-    (cond e.suppressed (Expiry.Told true false e.retrans)
-    (cond (leb count_max e.retrans) (Expiry.Refused count_full) (Expiry.Told true (fails_at e.maximum (e.retrans + 1)) (e.retrans + 1))))
-    (Expiry.Told false false e.retrans))
-    (Expiry.Refused beyond_limit)
-
--- what it leaves: without the suppression, or one more counted
-abbrev pub left_of : Entry → (clock : ℕ) → Entry
-left_of e clock =
-    cond (leb clock clock_max)
-    (cond (passed clock e.deadline)
-    (cond e.suppressed (with_suppression e false)
-    (cond (leb count_max e.retrans) e (with_count e (e.retrans + 1))))
-    e)
-    e
-
--- the marks and the reply, side by side
-abbrev pub step_of : (marks refusal count : ℕ) → (expired failure : Bool) → Step
-step_of w n k e f = record { marks = w; reply = record { count = k; refusal = n; expired = e; failure = f } }
-
--- both, of the timer in three words, whose marks become v; a refusal leaves them
+-- what it answers (`answer_of`) and what it leaves (`left_of`), of the timer in three words, whose marks become v; a refusal leaves them
 pub record Expires (d m w clock v : ℕ) (y : Expired) : Type 0 where
   pub said : y ≡ expired_of (answer_of (entry_in d m w) clock)
   pub left : entry_in d m v ≡ left_of (entry_in d m w) clock

@@ -1,17 +1,17 @@
 -- The table that words mean: three words to a timer, in the order of `Timer::VALUES`. Every words mean a table.
-use Rattle.std.specs.Prelude.{◌≡◌, Bool, true, false, List, [], ◌∷◌, ℕ, ◌/◌, ◌%◌}
-use Rattle.limits.specs.declared.Moment.{Moment}
+use Rattle.std.specs.Prelude.{◌≡◌, Bool, true, false, List, [], ◌∷◌, ℕ, ◌/◌, ◌%◌, Some, None}
 pub use Rattle.limits.specs.Flags.{is_set}
 pub use Rattle.limits.specs.Moments.{moment_of}
-use Rattle.timer.specs.declared.Maximum.{Maximum}
+use Rattle.limits.specs.Moments.{Moment}
+use Rattle.timer.specs.Entries.{Maximum}
 use Rattle.timer.specs.declared.Entry.{Entry}
 use Rattle.timer.specs.declared.TimerTable.{TimerTable}
 use Rattle.timer_cells.specs.declared.Head.{Head}
 
 -- a maximum of retransmissions, where there is one
 abbrev pub maximum_of : (is : Bool) → (most : ℕ) → Maximum
-maximum_of true m = Maximum.Of m
-maximum_of false m = Maximum.Unlimited
+maximum_of true m = Some m
+maximum_of false m = None
 
 -- one timer: its deadline, its maximum, and its marks: the count below 2^32, and a byte each for a deadline, a maximum, a suppression
 abbrev pub entry_in : (deadline maximum marks : ℕ) → Entry

@@ -1,18 +1,20 @@
 // The six timers in 18 words that the caller lends, three to a timer: the deadline, the maximum, and the marks, which are the count below 2^32 and a
 // byte each for whether there is a deadline, a maximum, a suppression. So the words are, byte for byte, the timers of include/girdermoth.h. A call
-// reads and writes the words of the timer that it names. Every words mean a table (`table_of` of specs/), and a refusal leaves every word.
+// reads and writes the words of the timer that it names. Every words mean a table (`table_of` of specs/), and a refusal leaves every word; words of
+// another number than 18 are refused. Only `new` changes the head, and a call that does not read it takes the words alone: what it says holds beside
+// every head.
 #![tactic(auto)]
 
-ghost use Rattle.std.specs.Prelude.{◌≡◌, true, false, cond, ◌+◌, ◌*◌, ◌≤◌, ◌<◌, eqb, length, set};
-ghost use Rattle.limits.specs.Limits.{setting_max};
+ghost use Rattle.std.specs.Prelude.{◌≡◌, true, false, cond, ◌+◌, ◌*◌, ◌/◌, ◌%◌, ◌<◌, length, set, MatchResult};
 ghost use Rattle.timer.specs.Entries.{idle_entry};
-ghost use Rattle.timer.specs.Timers.{backoff, with_count, with_suppression};
-ghost use Rattle.timer.specs.declared.Expiry.TheVariants.{Refused};
-ghost use Rattle.timer_cells.specs.Words.{moment_of, maximum_of, entry_in, entries_in, with_time, Marked};
-ghost use Rattle.timer_cells.specs.Says.{due_of, no_due, said_of, said_expiry, step_of, Expires, Creates, Sets, Starts, Restarts, Stops, Resets, Suppresses, Gets, Checks, NextTimeout};
+ghost use Rattle.timer.specs.Timers.{with_count, with_suppression};
+ghost use Rattle.timer.specs.Calls.{number_of};
+ghost use Rattle.timer_cells.specs.declared.Head.{Head};
+ghost use Rattle.timer_cells.specs.Words.{is_set, moment_of, maximum_of, entry_in, entries_in, with_time, Marked};
+ghost use Rattle.timer_cells.specs.Says.{due_told, expired_of, Stands, Missing, Expires, Creates, Sets, Starts, Restarts, Stops, Resets, Suppresses, Gets, Checks, NextTimeout};
 
-use limits::Moment;
-use timer::{Entry, Maximum, TIMER_COUNT, Timer};
+use limits::{Moment, Refusal};
+use timer::{Entry, Expiry, TIMER_COUNT};
 
 // How many words the six have.
 pub const WORDS: usize = 18;
@@ -31,7 +33,7 @@ pub struct Head {
     pub rto_max: u32,
 }
 
-// A time, where `yes` is set.
+// A time, where `yes` is set. A flag and two numbers for C's layout.
 #[repr(C)]
 #[derive(Clone, Copy)]
 pub struct Due {
@@ -40,7 +42,7 @@ pub struct Due {
     pub yes: bool,
 }
 
-// What an expiry tells.
+// What an expiry tells. A refusal's number beside it for C's layout.
 #[repr(C)]
 #[derive(Clone, Copy)]
 pub struct Expired {
@@ -50,108 +52,80 @@ pub struct Expired {
     pub failure: bool,
 }
 
-// The reply to a call that changes the timers is a refusal's number, or 0.
-#[derive(Clone, Copy)]
-pub struct Said {
-    pub head: Head,
-    pub reply: u8,
-}
-
-#[derive(Clone, Copy)]
-pub struct SaidExpired {
-    pub head: Head,
-    pub reply: Expired,
-}
-
-// The marks after an expiry, and what it tells.
-#[derive(Clone, Copy)]
-struct Step {
-    marks: u64,
-    reply: Expired,
-}
-
 // ---- replies
 
-fn answer(head: Head, number: u8) -> Said
-    ensures { result ≡ said_of head number }
-{
-    Said {
-        head: head,
-        reply: number,
+impl From<Result<Moment, Refusal>> for Due {
+    fn from(answer: Result<Moment, Refusal>) -> Due
+        ensures { result ≡ due_told answer }
+    {
+        match answer {
+            Ok(deadline) => Due {
+                value: deadline.unwrap_or(0),
+                refusal: 0,
+                yes: deadline.is_some(),
+            },
+            Err(refusal) => Due {
+                value: 0,
+                refusal: refusal.number(),
+                yes: false,
+            },
+        }
     }
 }
 
-fn denied(head: Head) -> SaidExpired
-    ensures { result ≡ said_expiry head (Refused 1) }
-{
-    SaidExpired {
-        head: head,
-        reply: Expired {
-            count: 0,
-            refusal: limits::BEYOND_LIMIT,
-            expired: false,
-            failure: false,
-        },
-    }
-}
-
-fn no_due() -> Due
-    ensures { result ≡ no_due }
-{
-    Due {
-        value: 0,
-        refusal: limits::BEYOND_LIMIT,
-        yes: false,
-    }
-}
-
-fn due_at(m: Moment) -> Due
-    ensures { result ≡ due_of m }
-{
-    match m {
-        Moment::Absent => Due {
-            value: 0,
-            refusal: 0,
-            yes: false,
-        },
-        Moment::At(time) => Due {
-            value: time,
-            refusal: 0,
-            yes: true,
-        },
+impl From<Result<Expiry, Refusal>> for Expired {
+    fn from(answer: Result<Expiry, Refusal>) -> Expired
+        ensures { result ≡ expired_of answer }
+    {
+        match answer {
+            Ok(
+                Expiry {
+                    expired,
+                    failure,
+                    count,
+                },
+            ) => Expired {
+                count,
+                refusal: 0,
+                expired,
+                failure,
+            },
+            Err(refusal) => Expired {
+                count: 0,
+                refusal: refusal.number(),
+                expired: false,
+                failure: false,
+            },
+        }
     }
 }
 
 // ---- one timer
 
-fn moment(is: bool, time: u64) -> Moment
-    ensures { result ≡ moment_of is time }
+// Where the words of a timer begin. Refusal: 1.
+fn first_word(cells: &[u64], timer: usize) -> Result<usize, Refusal>
+    ensures { MatchResult result (λ at. Stands (length cells.now) timer at) (λ r. Missing (length cells.now) timer r) }
 {
-    if is {
-        return Moment::At(time);
+    if cells.len() != WORDS || timer >= TIMER_COUNT {
+        return Err(Refusal::BeyondLimit);
     }
-    Moment::Absent
+    Ok(timer * 3)
 }
 
-fn maximum_of(is: bool, most: u64) -> Maximum
-    ensures { result ≡ maximum_of is most }
+fn deadline(time: u64, marks: u64) -> Moment
+    ensures { result ≡ moment_of (is_set (marks / 4294967296 % 256)) time }
 {
-    if is {
-        return Maximum::Of(most);
-    }
-    Maximum::Unlimited
+    (marks / DEADLINE % 256 != 0).then_some(time)
 }
 
-fn unpacked(deadline: u64, maximum: u64, marks: u64) -> Entry
-    ensures { result ≡ entry_in deadline maximum marks }
+fn unpacked(time: u64, most: u64, marks: u64) -> Entry
+    ensures { result ≡ entry_in time most marks }
 {
     let bytes = marks / DEADLINE;
-    let until = moment(bytes % 256 != 0, deadline);
-    let most = maximum_of(bytes / 256 % 256 != 0, maximum);
     Entry {
-        deadline: until,
+        deadline: deadline(time, marks),
         retrans: (marks % DEADLINE) as u32,
-        maximum: most,
+        maximum: (bytes / 256 % 256 != 0).then_some(most),
         suppressed: bytes / 256 / 256 % 256 != 0,
     }
 }
@@ -162,12 +136,12 @@ fn timed(marks: u64, is: bool) -> u64
 {
     let byte = marks / DEADLINE % 256;
     if !is {
-        return marks - byte * DEADLINE;
+        marks - byte * DEADLINE
+    } else if byte == 0 {
+        marks + DEADLINE
+    } else {
+        marks
     }
-    if byte == 0 {
-        return marks + DEADLINE;
-    }
-    marks
 }
 
 // The marks of a timer that is idle, with the maximum that it has.
@@ -189,9 +163,10 @@ fn suppressed(marks: u64) -> u64
     ensures { Marked (λ d e. with_suppression e true) marks result }
 {
     if marks / DEADLINE / 256 / 256 % 256 == 0 {
-        return marks + SUPPRESSION;
+        marks + SUPPRESSION
+    } else {
+        marks
     }
-    marks
 }
 
 // The marks without a suppression.
@@ -201,66 +176,29 @@ fn lifted(marks: u64) -> u64
     marks - marks / DEADLINE / 256 / 256 % 256 * SUPPRESSION
 }
 
-// How long a timer waits once it is started; short enough that no clock overflows.
-fn wait(timer: usize, interval: u64, count: u32, rto_max: u32) -> u64
-    requires { interval ≤ setting_max }
-    ensures exact { result ≡ cond (eqb timer 5) interval (backoff interval count rto_max) }
-    ensures short { result ≤ setting_max }
-{
-    if timer == Timer::ACK {
-        return interval;
-    }
-    timer::calculate_next_timeout(interval as u32, count, rto_max)
-}
-
-fn stepped(marks: u64, refusal: u8, count: u32, expired: bool, failure: bool) -> Step
-    ensures { result ≡ step_of marks refusal count expired failure }
-{
-    Step {
-        marks: marks,
-        reply: Expired {
-            count: count,
-            refusal: refusal,
-            expired: expired,
-            failure: failure,
-        },
-    }
-}
-
 // A suppressed expiry clears the suppression; another is counted.
-fn expiry(deadline: u64, maximum: u64, marks: u64, clock: u64) -> Step
-    ensures { Expires deadline maximum marks clock result.marks result.reply }
+fn expiry(time: u64, most: u64, marks: &mut u64, clock: u64) -> Result<Expiry, Refusal>
+    ensures { Expires time most marks.old clock marks.new (expired_of result) }
 {
-    if clock > limits::CLOCK_MAX {
-        return stepped(marks, limits::BEYOND_LIMIT, 0, false, false);
+    let before = unpacked(time, most, *marks);
+    let mut after = before;
+    let told = after.expire(clock)?;
+    if !told.expired {
+        return Ok(told);
     }
-    let entry = unpacked(deadline, maximum, marks);
-    let until = entry.deadline;
-    let count = entry.retrans;
-    if !until.reached(clock) {
-        return stepped(marks, 0, count, false, false);
-    }
-    if entry.suppressed {
-        let rest = lifted(marks);
-        return stepped(rest, 0, count, true, false);
-    }
-    if count >= limits::COUNT_MAX {
-        return stepped(marks, limits::COUNT_FULL, 0, false, false);
-    }
-    let more = count + 1;
-    let most = entry.maximum;
-    let failure = most.exceeded(more);
-    stepped(marks + 1, 0, more, true, failure)
+    *marks = if before.suppressed {
+        lifted(*marks)
+    } else {
+        *marks + 1
+    };
+    Ok(told)
 }
 
 // The marks of a timer that is idle, with a maximum or with none.
 fn limited(is: bool) -> u64
     ensures { result ≡ cond is 1099511627776 0 }
 {
-    if is {
-        return MAXIMUM;
-    }
-    0
+    if is { MAXIMUM } else { 0 }
 }
 
 // Makes a timer idle.
@@ -270,31 +208,28 @@ fn idle(cells: &mut [u64], timer: usize, is: bool, most: u64)
     ensures { entries_in cells.new ≡ set (entries_in cells.old) timer (idle_entry (maximum_of is most)) }
 {
     let at = timer * 3;
-    let marks = limited(is);
     cells[at] = 0;
     cells[at + 1] = most;
-    cells[at + 2] = marks;
+    cells[at + 2] = limited(is);
 }
 
 // ---- the six
 
 // Six idle timers. T2Shutdown and Ack have no maximum, T3RTX the data maximum, the others the init maximum. Refusal: 1.
+// A flag and a number each, and no Option: C's struct gets the number in its word, whatever the flag is.
 pub fn new(
-    head: Head,
+    head: &mut Head,
     cells: &mut [u64],
     has_init: bool,
     init: u64,
     has_data: bool,
     data: u64,
     rto_max: u64,
-) -> Said
-    ensures { Creates (length cells.old) has_init init has_data «data» rto_max head cells.old result.head cells.new result.reply }
+) -> Result<(), Refusal>
+    ensures { Creates (length cells.old) has_init init has_data «data» rto_max head.old cells.old head.new cells.new (number_of result) }
 {
-    if cells.len() != WORDS {
-        return answer(head, limits::BEYOND_LIMIT);
-    }
-    if rto_max > limits::SETTING_MAX {
-        return answer(head, limits::BEYOND_LIMIT);
+    if cells.len() != WORDS || rto_max > limits::SETTING_MAX {
+        return Err(Refusal::BeyondLimit);
     }
     idle(cells, 0, has_init, init);
     idle(cells, 1, has_init, init);
@@ -302,56 +237,45 @@ pub fn new(
     idle(cells, 3, has_data, data);
     idle(cells, 4, has_init, init);
     idle(cells, 5, false, 0);
-    Said {
-        head: Head {
-            rto_max: rto_max as u32,
-        },
-        reply: 0,
-    }
+    head.rto_max = rto_max as u32;
+    Ok(())
 }
 
-// Sets or clears the deadline alone. Refusal: 1.
-pub fn set(head: Head, cells: &mut [u64], timer: usize, is: bool, time: u64) -> Said
-    ensures { Sets (length cells.old) timer is time head cells.old result.head cells.new result.reply }
+// Sets or clears the deadline alone. Refusal: 1. A flag and a number, as in `new`.
+pub fn set(cells: &mut [u64], timer: usize, is: bool, time: u64) -> Result<(), Refusal>
+    ensures { (head : Head) → Sets (length cells.old) timer is time head cells.old head cells.new (number_of result) }
 {
-    if cells.len() != WORDS {
-        return answer(head, limits::BEYOND_LIMIT);
+    let at = first_word(cells, timer)?;
+    if limits::beyond(is.then_some(time), limits::CLOCK_MAX) {
+        return Err(Refusal::BeyondLimit);
     }
-    if timer >= TIMER_COUNT {
-        return answer(head, limits::BEYOND_LIMIT);
-    }
-    let until = moment(is, time);
-    if until.beyond(limits::CLOCK_MAX) {
-        return answer(head, limits::BEYOND_LIMIT);
-    }
-    let at = timer * 3;
-    let rest = timed(cells[at + 2], is);
+    let marks = timed(cells[at + 2], is);
     cells[at] = time;
-    cells[at + 2] = rest;
-    answer(head, 0)
+    cells[at + 2] = marks;
+    Ok(())
 }
 
 // Refusal: 1.
-pub fn start(head: Head, cells: &mut [u64], timer: usize, clock: u64, interval: u64) -> Said
-    ensures { Starts (length cells.old) timer clock interval head cells.old result.head cells.new result.reply }
+pub fn start(
+    head: Head,
+    cells: &mut [u64],
+    timer: usize,
+    clock: u64,
+    interval: u64,
+) -> Result<(), Refusal>
+    ensures { Starts (length cells.old) timer clock interval head cells.old head cells.new (number_of result) }
 {
-    if cells.len() != WORDS {
-        return answer(head, limits::BEYOND_LIMIT);
-    }
-    if timer >= TIMER_COUNT {
-        return answer(head, limits::BEYOND_LIMIT);
-    }
+    let at = first_word(cells, timer)?;
     if !timer::startable(clock, interval) {
-        return answer(head, limits::BEYOND_LIMIT);
+        return Err(Refusal::BeyondLimit);
     }
-    let at = timer * 3;
     let marks = cells[at + 2];
     let count = (marks % DEADLINE) as u32;
-    let time = clock + wait(timer, interval, count, head.rto_max);
+    let time = clock + timer::wait(timer, interval, count, head.rto_max);
     let rest = timed(marks, true);
     cells[at] = time;
     cells[at + 2] = rest;
-    answer(head, 0)
+    Ok(())
 }
 
 // Leaves a deadline at or after `clock` alone; the arguments are tested all the same. Refusal: 1.
@@ -361,126 +285,71 @@ pub fn restart_if_stale(
     timer: usize,
     clock: u64,
     interval: u64,
-) -> Said
-    ensures { Restarts (length cells.old) timer clock interval head cells.old result.head cells.new result.reply }
+) -> Result<(), Refusal>
+    ensures { Restarts (length cells.old) timer clock interval head cells.old head cells.new (number_of result) }
 {
-    if cells.len() != WORDS {
-        return answer(head, limits::BEYOND_LIMIT);
-    }
-    if timer >= TIMER_COUNT {
-        return answer(head, limits::BEYOND_LIMIT);
-    }
-    if !timer::startable(clock, interval) {
-        return answer(head, limits::BEYOND_LIMIT);
-    }
-    let at = timer * 3;
-    let marks = cells[at + 2];
-    let until = moment(marks / DEADLINE % 256 != 0, cells[at]);
-    if until.ahead(clock) {
-        return answer(head, 0);
+    let at = first_word(cells, timer)?;
+    let until = deadline(cells[at], cells[at + 2]);
+    if timer::startable(clock, interval) && limits::ahead(until, clock) {
+        return Ok(());
     }
     start(head, cells, timer, clock, interval)
 }
 
 // Clears deadline, count and suppression. Refusal: 1.
-pub fn stop(head: Head, cells: &mut [u64], timer: usize) -> Said
-    ensures { Stops (length cells.old) timer head cells.old result.head cells.new result.reply }
+pub fn stop(cells: &mut [u64], timer: usize) -> Result<(), Refusal>
+    ensures { (head : Head) → Stops (length cells.old) timer head cells.old head cells.new (number_of result) }
 {
-    if cells.len() != WORDS {
-        return answer(head, limits::BEYOND_LIMIT);
-    }
-    if timer >= TIMER_COUNT {
-        return answer(head, limits::BEYOND_LIMIT);
-    }
-    let at = timer * 3;
-    let rest = stopped(cells[at + 2]);
-    cells[at + 2] = rest;
-    answer(head, 0)
+    let at = first_word(cells, timer)?;
+    cells[at + 2] = stopped(cells[at + 2]);
+    Ok(())
 }
 
 // Forgets the expiries counted so far; the deadline stays. Refusal: 1.
-pub fn reset_retrans(head: Head, cells: &mut [u64], timer: usize) -> Said
-    ensures { Resets (length cells.old) timer head cells.old result.head cells.new result.reply }
+pub fn reset_retrans(cells: &mut [u64], timer: usize) -> Result<(), Refusal>
+    ensures { (head : Head) → Resets (length cells.old) timer head cells.old head cells.new (number_of result) }
 {
-    if cells.len() != WORDS {
-        return answer(head, limits::BEYOND_LIMIT);
-    }
-    if timer >= TIMER_COUNT {
-        return answer(head, limits::BEYOND_LIMIT);
-    }
-    let at = timer * 3;
-    let rest = uncounted(cells[at + 2]);
-    cells[at + 2] = rest;
-    answer(head, 0)
+    let at = first_word(cells, timer)?;
+    cells[at + 2] = uncounted(cells[at + 2]);
+    Ok(())
 }
 
 // The next expiry of the timer is not counted. Refusal: 1.
-pub fn suppress_error_count(head: Head, cells: &mut [u64], timer: usize) -> Said
-    ensures { Suppresses (length cells.old) timer head cells.old result.head cells.new result.reply }
+pub fn suppress_error_count(cells: &mut [u64], timer: usize) -> Result<(), Refusal>
+    ensures { (head : Head) → Suppresses (length cells.old) timer head cells.old head cells.new (number_of result) }
 {
-    if cells.len() != WORDS {
-        return answer(head, limits::BEYOND_LIMIT);
-    }
-    if timer >= TIMER_COUNT {
-        return answer(head, limits::BEYOND_LIMIT);
-    }
-    let at = timer * 3;
-    let rest = suppressed(cells[at + 2]);
-    cells[at + 2] = rest;
-    answer(head, 0)
+    let at = first_word(cells, timer)?;
+    cells[at + 2] = suppressed(cells[at + 2]);
+    Ok(())
 }
 
 // Asking counts: every call at or after the deadline is an expiry of its own, and the deadline stays. Refusals: 1, 12.
-pub fn is_expired(head: Head, cells: &mut [u64], timer: usize, clock: u64) -> SaidExpired
-    ensures { Checks (length cells.old) timer clock head cells.old result.head cells.new result.reply }
+pub fn is_expired(cells: &mut [u64], timer: usize, clock: u64) -> Result<Expiry, Refusal>
+    ensures { (head : Head) → Checks (length cells.old) timer clock head cells.old head cells.new (expired_of result) }
 {
-    if cells.len() != WORDS {
-        return denied(head);
-    }
-    if timer >= TIMER_COUNT {
-        return denied(head);
-    }
-    let at = timer * 3;
-    let step = expiry(cells[at], cells[at + 1], cells[at + 2], clock);
-    cells[at + 2] = step.marks;
-    let reply = step.reply;
-    SaidExpired {
-        head: head,
-        reply: reply,
-    }
+    let at = first_word(cells, timer)?;
+    expiry(cells[at], cells[at + 1], &mut cells[at + 2], clock)
 }
 
 // The deadline of a timer. Refusal: 1.
-pub fn get(head: Head, cells: &[u64], timer: usize) -> Due
-    ensures { Gets (length cells.now) timer head cells.now result }
+pub fn get(cells: &[u64], timer: usize) -> Result<Moment, Refusal>
+    ensures { (head : Head) → Gets (length cells.now) timer head cells.now (due_told result) }
 {
-    if cells.len() != WORDS {
-        return no_due();
-    }
-    if timer >= TIMER_COUNT {
-        return no_due();
-    }
-    let at = timer * 3;
-    let marks = cells[at + 2];
-    let until = moment(marks / DEADLINE % 256 != 0, cells[at]);
-    due_at(until)
+    let at = first_word(cells, timer)?;
+    Ok(deadline(cells[at], cells[at + 2]))
 }
 
-// The smallest deadline of the six, if any has one.
-pub fn next_timeout(head: Head, cells: &[u64]) -> Due
-    ensures { NextTimeout (length cells.now) head cells.now result }
+// The smallest deadline of the six, if any has one. Refusal: 1.
+pub fn next_timeout(cells: &[u64]) -> Result<Moment, Refusal>
+    ensures { (head : Head) → NextTimeout (length cells.now) head cells.now (due_told result) }
 {
     if cells.len() != WORDS {
-        return no_due();
+        return Err(Refusal::BeyondLimit);
     }
-    let mut next = Moment::Absent;
-    let mut i = 0;
-    while i < TIMER_COUNT {
-        let at = i * 3;
-        let marks = cells[at + 2];
-        let until = moment(marks / DEADLINE % 256 != 0, cells[at]);
-        next = next.earlier(until);
-        i += 1;
+    let mut next = None;
+    for timer in 0..TIMER_COUNT {
+        let at = timer * 3;
+        next = limits::earlier(next, deadline(cells[at], cells[at + 2]));
     }
-    due_at(next)
+    Ok(next)
 }

@@ -3,8 +3,8 @@ ghost use Rattle.std.specs.Prelude.{◌≡◌, ◌≤◌};
 ghost use Rattle.std.proofs.lemmas.List.Edits.{sets};
 ghost use Rattle.model.specs.Data.{padding, data_header, data_laid, read_data};
 
-use limits::{OUTPUT_SHORT, PAYLOAD_OUTSIDE};
-use model::{Chunk, Data, Laid};
+use limits::Refusal;
+use model::{Chunk, DataChunk};
 
 // The chunk type.
 const DATA: u8 = 0;
@@ -35,55 +35,42 @@ fn put_header(out: &mut [u8], tsn: u32, chunk: Chunk)
 }
 
 // The chunk of an entry, whose payload is copied from the caller's bytes; the bytes behind its padding stay. Refusals: 16, 17.
-pub fn write(out: &mut [u8], tsn: u32, chunk: Chunk, bytes: &[u8]) -> Laid
+pub fn write(out: &mut [u8], tsn: u32, chunk: Chunk, bytes: &[u8]) -> Result<usize, Refusal>
     ensures { record { answer = result; out = out.new } ≡ data_laid tsn chunk bytes.now out.old }
 {
-    let lent = bytes.len();
-    if (lent as u64) < chunk.offset {
-        return Laid::Refused(PAYLOAD_OUTSIDE);
-    }
-    let from = chunk.offset as usize;
     let length = chunk.length as usize;
-    if lent - from < length {
-        return Laid::Refused(PAYLOAD_OUTSIDE);
-    }
+    let rest = bytes
+        .get(chunk.offset as usize..)
+        .ok_or(Refusal::PayloadOutside)?;
+    let payload = rest.get(..length).ok_or(Refusal::PayloadOutside)?;
     let zeros = zeros_behind(length);
     let whole = HEADER + length + zeros;
     if out.len() < whole {
-        return Laid::Refused(OUTPUT_SHORT);
+        return Err(Refusal::OutputShort);
     }
     put_header(out, tsn, chunk);
-    octets::copy(out, HEADER, &bytes[from..from + length]);
+    octets::copy(out, HEADER, payload);
     octets::clear(out, HEADER + length, zeros);
-    Laid::Bytes(whole)
+    Ok(whole)
 }
 
 // ---- reading
 
 // What the bytes are: a DATA chunk that is whole but for its padding, or no such chunk. Bytes behind it are not looked at.
-pub fn read(bytes: &[u8]) -> Data
+pub fn read(bytes: &[u8]) -> Option<DataChunk>
     ensures { result ≡ read_data bytes.now }
 {
-    let lent = bytes.len();
-    if lent < HEADER {
-        return Data::Other;
-    }
-    if octets::byte(bytes, 0) != DATA {
-        return Data::Other;
-    }
     let length = octets::short(bytes, 2);
-    if length < 16 {
-        return Data::Other;
-    }
-    if lent < length as usize {
-        return Data::Other;
-    }
-    Data::Chunk {
+    let payload = length.checked_sub(16)?;
+    let whole = bytes.len() >= HEADER
+        && octets::byte(bytes, 0) == DATA
+        && bytes.len() >= length as usize;
+    whole.then_some(DataChunk {
         tsn: octets::long(bytes, 4),
         stream: octets::short(bytes, 8),
         ssn: octets::short(bytes, 10),
         flags: octets::byte(bytes, 1),
         protocol: octets::long(bytes, 12),
-        length: length - 16,
-    }
+        length: payload,
+    })
 }

@@ -11,36 +11,28 @@ const SACK: u8 = 3;
 // The bytes before the first block.
 pub const FIXED: usize = 16;
 
-// What the bytes are.
+// What a SACK's bytes say of it.
 #[derive(Clone, Copy)]
-pub enum Layout {
-    Sack { cumulative: u32, blocks: u16 },
-    Other,
+pub struct Layout {
+    pub cumulative: u32,
+    pub blocks: u16,
 }
 
-pub fn read(packet: &[u8]) -> Layout
+// None where the bytes lent are no SACK.
+pub fn read(packet: &[u8]) -> Option<Layout>
     ensures { result ≡ layout_of packet.now }
 {
-    let lent = packet.len();
-    if lent < FIXED {
-        return Layout::Other;
-    }
-    if octets::byte(packet, 0) != SACK {
-        return Layout::Other;
-    }
     let length = octets::short(packet, 2) as usize;
     let blocks = octets::short(packet, 12);
     let duplicates = octets::short(packet, 14);
-    if length != FIXED + (blocks as usize + duplicates as usize) * 4 {
-        return Layout::Other;
-    }
-    if length != lent {
-        return Layout::Other;
-    }
-    Layout::Sack {
+    let whole = packet.len() >= FIXED
+        && octets::byte(packet, 0) == SACK
+        && length == FIXED + (blocks as usize + duplicates as usize) * 4
+        && length == packet.len();
+    whole.then_some(Layout {
         cumulative: octets::long(packet, 4),
-        blocks: blocks,
-    }
+        blocks,
+    })
 }
 
 // The i-th block of the part from byte 16 on; past its end a block of zeros.
@@ -60,27 +52,12 @@ pub fn block(part: &[u8], i: usize) -> Block
 fn is_within(block: Block, left: usize) -> bool
     ensures { result ≡ within left block }
 {
-    if block.start < 1 {
-        return false;
-    }
-    if block.end < block.start {
-        return false;
-    }
-    block.end as usize <= left
+    1 <= block.start && block.start <= block.end && block.end as usize <= left
 }
 
 // Whether each of the first `count` blocks lies within the `left` TSNs behind the cumulative one.
 pub fn all_within(part: &[u8], count: u16, left: usize) -> bool
     ensures { result ≡ all_within left (blocks_from count 0 part.now) }
 {
-    let n = count as usize;
-    let mut i: usize = 0;
-    while i < n {
-        let next = block(part, i);
-        if !is_within(next, left) {
-            return false;
-        }
-        i += 1;
-    }
-    true
+    (0..count as usize).all(|i| is_within(block(part, i), left))
 }

@@ -2,30 +2,24 @@
 -- number, since no letter is worth nothing.
 use mathlib.Core.Path.{◌≡◌, refl, sym, ap, ◌∙◌}
 use Prim.Native.Nat.{ℕ, suc, ◌+◌, ◌*◌, ◌-◌, ◌≤◌, ◌<◌}
-use mathlib.Core.Bool.{Bool, true, false, ◌&&◌, true≢false}
+use mathlib.Core.Bool.{Bool, true, false, ◌&&◌}
 use mathlib.Core.List.{List, [], ◌∷◌}
 use native.Mathlib.Omega.{arith}
-use lib.Dec.{leb, ltb}
+use lib.Dec.{ltb}
 use lib.ListN.{length}
-use borrow.Author.Tests.{leb-true, ltb-true, ltb-false}
+use borrow.Author.Tests.{ltb-true, ltb-false}
+use Rattle.std.proofs.lemmas.Bool.{and_parts}
+use Rattle.std.proofs.lemmas.Bool.Decides.{nat_tests}
 use Rattle.words.specs.Figures.{all, behind, letter, code}
 use Rattle.words.specs.Claims.{NamesDiffer}
-
-first_of_lem : (x y : Bool) → x && y ≡ true → x ≡ true
-first_of_lem true y e = refl
-first_of_lem false y e = absurd (true≢false (sym e))
-
-last_of : (x y : Bool) → x && y ≡ true → y ≡ true
-last_of true y e = e
-last_of false y e = absurd (true≢false (sym e))
 
 -- a letter is worth 1 to 26
 module _ (b : ℕ) (e : letter b ≡ true) where
   low : 97 ≤ b
-  low = leb-true 97 b (first_of_lem (leb 97 b) (leb b 122) e)
+  low = grind (arith, nat_tests)
 
   high : b ≤ 122
-  high = leb-true b 122 (last_of (leb 97 b) (leb b 122) e)
+  high = grind (arith, nat_tests)
 
 record Same (m n : ℕ) (v w : List ℕ) : Type 0 where
   before : m ≡ n
@@ -37,9 +31,9 @@ aligned [] [] m n p q l e = record { before = e; letters = refl }
 aligned [] (d ∷ w) m n p q l e = absurd (omega arith)
 aligned (b ∷ v) [] m n p q l e = absurd (omega arith)
 aligned (b ∷ v) (d ∷ w) m n p q l e =
-    let lb = first_of_lem (letter b) (all letter v) p in
-    let ld = first_of_lem (letter d) (all letter w) q in
-    let rest = aligned v w (m * 64 + (b - 96)) (n * 64 + (d - 96)) (last_of (letter b) (all letter v) p) (last_of (letter d) (all letter w) q) (omega arith) e in
+    let lb = (and_parts (letter b) (all letter v) p).0 in
+    let ld = (and_parts (letter d) (all letter w) q).0 in
+    let rest = aligned v w (m * 64 + (b - 96)) (n * 64 + (d - 96)) (and_parts (letter b) (all letter v) p).1 (and_parts (letter d) (all letter w) q).1 (omega arith) e in
     let x : b ≡ d = omega (arith, rest.before, low b lb, high b lb, low d ld, high d ld) in
     let y : m ≡ n = omega (arith, rest.before, low b lb, high b lb, low d ld, high d ld) in
     record { before = y; letters = ap (λ (k : ℕ). k ∷ v) x ∙ ap (λ (r : List ℕ). d ∷ r) rest.letters }
@@ -50,14 +44,14 @@ by_length : (v : List ℕ) (d : ℕ) (w : List ℕ) (n : ℕ) → all letter v �
     → (t : Bool) → ltb (length v) (length w) ≡ t → ⊥
 by_length v d w n p q l e shorter true h = shorter (n * 64 + (d - 96)) (ltb-true _ _ h) e
 by_length v d w n p q l e shorter false h =
-    let same = aligned v w 0 (n * 64 + (d - 96)) p (last_of (letter d) (all letter w) q) (omega (arith, ltb-false (length v) (length w) h)) e in
-    let one = low d (first_of_lem (letter d) (all letter w) q) in
+    let same = aligned v w 0 (n * 64 + (d - 96)) p (and_parts (letter d) (all letter w) q).1 (omega (arith, ltb-false (length v) (length w) h)) e in
+    let one = low d (and_parts (letter d) (all letter w) q).0 in
     omega (arith, same.before)
 
 longer : (v w : List ℕ) (n : ℕ) → all letter v ≡ true → all letter w ≡ true → length v < length w → behind 64 96 0 v ≡ behind 64 96 n w → ⊥
 longer v [] n p q l e = omega arith
 longer v (d ∷ w) n p q l e =
-    by_length v d w n p q (omega arith) e (λ k h g. longer v w k p (last_of (letter d) (all letter w) q) h g) (ltb (length v) (length w)) refl
+    by_length v d w n p q (omega arith) e (λ k h g. longer v w k p (and_parts (letter d) (all letter w) q).1 h g) (ltb (length v) (length w)) refl
 
 by_lengths : (v w : List ℕ) → all letter v ≡ true → all letter w ≡ true → code v ≡ code w → (s t : Bool) → ltb (length v) (length w) ≡ s → ltb (length w) (length v) ≡ t → v ≡ w
 by_lengths v w p q e true t h g = absurd (longer v w 0 p q (ltb-true _ _ h) e)

@@ -1,14 +1,15 @@
 -- Read byte by byte a word is what it is as a whole: the value of its figures only grows, so a word that is too large on the way is so at
 -- its end.
-use mathlib.Core.Path.{◌≡◌, refl, sym, ap, ◌∙◌}
+use mathlib.Core.Path.{◌≡◌, refl, ap, ◌∙◌}
 use Prim.Native.Nat.{ℕ, ◌+◌, ◌*◌, ◌-◌, ◌≤◌, ◌<◌}
-use mathlib.Core.Bool.{Bool, true, false, cond, ◌&&◌, true≢false}
+use mathlib.Core.Bool.{Bool, true, false, cond}
 use mathlib.Core.List.{List, [], ◌∷◌}
 use native.Mathlib.Omega.{arith}
 use lib.Dec.{leb, eqb}
 use borrow.Author.Tests.{leb-true, leb-false, le-leb, lt-leb}
+use Rattle.std.specs.Prelude.{Some, None}
 use Rattle.words.specs.declared.Token.{Token}
-use Rattle.words.specs.declared.Appended.{Appended}
+use Rattle.std.proofs.lemmas.Bool.Decides.{nat_tests}
 use Rattle.words.specs.Figures.{all, behind, digit, letter, number_max, name_max}
 use Rattle.words.specs.Tokens.{token_of, number, name, dashed, begin_of, begun, grow_of, grown, held_as, appended_of}
 use Rattle.words.specs.Claims.{ReadsWords}
@@ -49,7 +50,7 @@ module _ (ok : ℕ → Bool) (base z limit : ℕ) (held : ℕ → Token) (larger
 -- ---- the three kinds
 
 pushed : (held : ℕ → Token) (d t : Bool) (w : ℕ)
-    → held_as held (cond d (cond t (Appended.Is w) Appended.Not) Appended.Not) ≡ cond d (cond t (held w) Token.Other) Token.Other
+    → held_as held (cond d (cond t (Some w) None) None) ≡ cond d (cond t (held w) Token.Other) Token.Other
 pushed held true true w = refl
 pushed held true false w = refl
 pushed held false t w = refl
@@ -71,13 +72,9 @@ behind_dash : (bs : List ℕ) → grown Token.Dash bs ≡ dashed bs
 behind_dash [] = refl
 behind_dash (b ∷ bs) = negatives (b ∷ bs)
 
-last_of : (x y : Bool) → x && y ≡ true → y ≡ true
-last_of true y e = e
-last_of false y e = absurd (true≢false (sym e))
-
 -- a digit alone is always within the limit
 digit_fits : (b : ℕ) → digit b ≡ true → leb (0 * 10 + (b - 48)) number_max ≡ true
-digit_fits b e = le-leb (0 * 10 + (b - 48)) number_max (omega (arith, leb-true b 57 (last_of (leb 48 b) (leb b 57) e)))
+digit_fits b e = grind (arith, nat_tests)
 
 by_first : (b : ℕ) (bs : List ℕ) (dash d : Bool) → eqb b 45 ≡ dash → digit b ≡ d → grown (begin_of b) bs ≡ token_of (b ∷ bs)
 by_first b bs true d p q = simp p (behind_dash bs)

@@ -1,7 +1,6 @@
 -- What a word is: a name, a number, a number below zero, a dash, or none of them.
-use Rattle.std.specs.Prelude.{ℕ, ◌+◌, ◌*◌, ◌-◌, cond, List, [], ◌∷◌, leb, eqb}
+use Rattle.std.specs.Prelude.{ℕ, ◌+◌, ◌*◌, ◌-◌, cond, List, [], ◌∷◌, leb, eqb, Option, Some, None}
 use Rattle.words.specs.declared.Token.{Token}
-use Rattle.words.specs.declared.Appended.{Appended}
 use Rattle.words.specs.Figures.{all, digit, letter, value, code, number_max, name_max}
 
 -- digits alone, and no larger than a number may be
@@ -31,20 +30,20 @@ code_of Token.Other = 0
 
 -- ---- byte by byte
 
-abbrev pub appended_of : ℕ → ℕ → Appended
-appended_of v b = cond (digit b) (cond (leb (v * 10 + (b - 48)) number_max) (Appended.Is (v * 10 + (b - 48))) Appended.Not) Appended.Not
+abbrev pub appended_of : ℕ → ℕ → Option ℕ
+appended_of v b = cond (digit b) (cond (leb (v * 10 + (b - 48)) number_max) (Some (v * 10 + (b - 48))) None) None
 
 abbrev pub lettered_of : ℕ → ℕ → Token
 lettered_of c b = cond (letter b) (cond (leb (c * 64 + (b - 96)) name_max) (Token.Name (c * 64 + (b - 96))) Token.Other) Token.Other
 
-abbrev pub held_as : (ℕ → Token) → Appended → Token
-held_as held (Appended.Is v) = held v
-held_as held Appended.Not = Token.Other
+abbrev pub held_as : (ℕ → Token) → Option ℕ → Token
+held_as held (Some v) = held v
+held_as held None = Token.Other
 
 -- a digit is a number, and what is none may be a name
-abbrev pub begun : ℕ → Appended → Token
-begun b (Appended.Is v) = Token.Number v
-begun b Appended.Not = lettered_of 0 b
+abbrev pub begun : ℕ → Option ℕ → Token
+begun b (Some v) = Token.Number v
+begun b None = lettered_of 0 b
 
 -- a word of one byte, and a word with one byte more
 abbrev pub begin_of : ℕ → Token

@@ -1,20 +1,18 @@
 -- The cases that 01 asks a proof of, as the rows of one table under one claim.
-use Rattle.std.specs.Prelude.{ℕ, ◌≡◌, Bool, true, false, List, [], ◌∷◌, ◌++◌, map, length, replicate, ℤ, pos, negsuc, Float}
+use Rattle.std.specs.Prelude.{ℕ, ◌≡◌, Bool, true, false, List, [], ◌∷◌, ◌++◌, map, length, replicate, ℤ, pos, negsuc, Float, Some, None, Ok, Err}
 use Rattle.std.specs.Float.{binary64}
 use Rattle.std.specs.Float.Ieee.{div}
 use Rattle.limits.specs.Limits.{room01}
-use Rattle.limits.specs.declared.Moment.{Moment}
-use Rattle.limits.specs.declared.Moment.TheVariants.{Absent, At}
 use Rattle.timer.specs.declared.Timer.TheVariants.{T3RTX}
-use Rattle.timer.specs.declared.Maximum.TheVariants.{Unlimited}
 use Rattle.timer.specs.Calls.{get_of, new_of}
 use Rattle.timer.specs.Claims as Timers
 use Rattle.rto.specs.Rto.{f64, fresh as estimator}
 use Rattle.rto.specs.Calls as Rto
-use Rattle.model.specs.declared.Released.{Released}
 use Rattle.model.specs.State.{Sender, fresh, with_streams}
 use Rattle.model.specs.Streams.{opened, accounted, release}
 use Rattle.model.specs.Calls.{Open, SetLow, Write, run}
+use Rattle.limits.specs.Moments.{Moment}
+use Rattle.model.specs.Answers.{Released}
 
 -- a question of 01: one constructor for each kind
 pub data Case : Type 0 where
@@ -41,13 +39,13 @@ numbered l = record { numbers = l; floats = [] }
 
 -- the deadline, if there is one
 abbrev pub time_of : Moment → List ℕ
-time_of Absent = []
-time_of (At d) = d ∷ []
+time_of None = []
+time_of (Some d) = d ∷ []
 
 -- the deadline of T3RTX started at 0, after as many expiries as its count is to be
 abbrev pub wait_after : (interval rtoMax count : ℕ) → List ℕ
 wait_after interval rtoMax n =
-    time_of (get_of (Timers.after (new_of Unlimited Unlimited rtoMax).table (Timers.set T3RTX (At 0) ∷ (replicate n (Timers.is_expired T3RTX 0) ++ (Timers.start T3RTX 0 interval ∷ [])))) T3RTX)
+    time_of (get_of (Timers.after (new_of None None rtoMax).table (Timers.set T3RTX (Some 0) ∷ (replicate n (Timers.is_expired T3RTX 0) ++ (Timers.start T3RTX 0 interval ∷ [])))) T3RTX)
 
 -- stream 1 is open in a fresh sender, and its next SSN is n
 abbrev pub at_ssn : (n : ℕ) → Sender
@@ -59,8 +57,8 @@ yes_no false = 0
 
 -- of a refusal, nothing
 abbrev pub told : Released → List ℕ
-told (Released.Told low) = yes_no low ∷ []
-told (Released.Refused n) = []
+told (Ok low) = yes_no low ∷ []
+told (Err n) = []
 
 abbrev pub answer_of : Case → Answer
 answer_of (Wait interval rtoMax n) = numbered (wait_after interval rtoMax n)

@@ -1,9 +1,8 @@
 -- The program `walk` of 01, as the definitions compute it.
-use Rattle.std.specs.Prelude.{ℕ, ◌+◌, ◌%◌, ◌≡◌, true, List, [], ◌∷◌, ◌++◌, map, length, drop}
+use Rattle.std.specs.Prelude.{ℕ, ◌+◌, ◌%◌, ◌≡◌, true, List, [], ◌∷◌, ◌++◌, map, length, drop, Some, None, Ok, Err}
 use Rattle.limits.specs.Limits.{room01, tsns}
+use Rattle.limits.specs.Refusals.{refusal_number}
 use Rattle.model.specs.declared.Chunk.{Chunk}
-use Rattle.model.specs.declared.Sent.{Sent}
-use Rattle.model.specs.declared.Abandoned.{Abandoned}
 use Rattle.model.specs.State.{Sender, fresh, next_tsn}
 use Rattle.model.specs.Messages.{flags}
 use Rattle.model.specs.Calls.{
@@ -32,6 +31,7 @@ use Rattle.model.specs.Calls.{
   step,
   answers,
 }
+use Rattle.model.specs.Answers.{Sent, Abandoned}
 
 -- streams 1 and 2 of 1,200 bytes a chunk, 2 unordered, both reliable; all messages are of type 53
 abbrev pub program : List Call
@@ -72,13 +72,13 @@ printed (k ∷ ks) s =
 -- ---- what is heard: a send's line, an abandonment's stream and bytes, 01's number of any other answer
 
 abbrev pub sent : Sent → List ℕ
-sent (Sent.Yielded t c) = line t c
-sent Sent.Nothing = []
-sent (Sent.Refused n) = n ∷ []
+sent (Ok (Some (t, c))) = line t c
+sent (Ok None) = []
+sent (Err r) = refusal_number r ∷ []
 
 abbrev pub dropped : Abandoned → List ℕ
-dropped (Abandoned.Message i b) = i ∷ b ∷ []
-dropped Abandoned.Nothing = []
+dropped (Some m) = m.stream ∷ m.bytes ∷ []
+dropped None = []
 
 abbrev pub heard : Answer → List ℕ
 heard (to_send a) = sent a

@@ -3,4 +3,4 @@ use mathlib.Core.Path.{◌∙◌}
 use Rattle.chunk_slot.proofs.load.Goals as goal
 
 pub returns : goal.returns
-returns c = c.unpack.ensures ∙ c.read-words.ensures
+returns c = c.unpack.ensures ∙ c.read.ensures

@@ -7,12 +7,12 @@ pub returns : goal.returns
 unfolding chunk_for
 returns c =
     let a = c.args in
-    let due = c.time_of-due in
-    let sent = c.time_of-sent in
+    let due = c.unwrap_or in
+    let sent = c.unwrap_or-2 in
     let types = c.pair-types in
     let sizes = c.pair-sizes in
-    let timed = c.is_set-timed in
-    let flown = c.is_set-flown in
+    let timed = c.is_some in
+    let flown = c.is_some-2 in
     let pending = c.flags-pending in
     let flying = c.flags-flying in
     chunk_back a.chunk (record { due = due.ensures; sent = sent.ensures; types = types.ensures; sizes = sizes.ensures; timed = timed.ensures; flown = flown.ensures; pending = pending.ensures.0; flying = flying.ensures.0; marks = c.marks_of-marks.ensures })

@@ -3,4 +3,4 @@ use Rattle.chunk_slot.specs.Meaning.{stamped_for}
 use Rattle.chunk_slot.proofs.stamped.Goals as goal
 
 pub returns : goal.returns
-returns c = let a = c.args in stamped_for a.words a.clock _ c.with_since-marks.ensures
+returns c = let a = c.args in stamped_for a.words a.clock _ c.with_since.ensures

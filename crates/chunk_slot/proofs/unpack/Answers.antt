@@ -6,4 +6,4 @@ use Rattle.chunk_slot.proofs.unpack.Goals as goal
 
 pub returns : goal.returns
 unfolding chunk_for chunk_from marks_in
-returns c = rw (c.moment_of-due.ensures, c.moment_of-sent.ensures)
+returns c = rw (c.then_some.ensures, c.then_some-2.ensures)

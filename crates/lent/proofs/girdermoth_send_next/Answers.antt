@@ -8,5 +8,5 @@ use Rattle.lent.proofs.girdermoth_send_next.Goals as goal
 pub returns : goal.returns
 returns c =
     let s = c.args.s.now in
-    let r = c.send_next-r in
-    subst (λ (room : Room). Flat.SendNext room c.args.clock s.head s.cells r.result.head r.new.cells r.result.reply) (sizes s.cells (omega arith)) r.ensures
+    let r = c.send_next in
+    subst (λ (room : Room). Flat.SendNext room c.args.clock s.head s.cells r.new.head r.new.cells r.result) (sizes s.cells (omega arith)) r.ensures

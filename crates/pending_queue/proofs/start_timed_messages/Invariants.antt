@@ -9,6 +9,3 @@ use Rattle.pending_queue.proofs.start_timed_messages.Given as goal
 
 abbrev pub invariant-loop-i : goal.invariant-loop-i
 invariant-loop-i l = (l.i ≤ length (held l.ring l.initial.cells)) × (length l.cells ≡ length l.initial.cells) × Done (unseen l.first) (started (min l.clock clock_max) l.first) (held l.ring l.initial.cells) l.i (held l.ring l.cells)
-
-abbrev pub decreases-loop-i : goal.decreases-loop-i
-decreases-loop-i l = l.i

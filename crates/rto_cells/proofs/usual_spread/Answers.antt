@@ -2,11 +2,8 @@
 use native.Mathlib.Nat.{le_trans}
 use native.Mathlib.Omega.{arith}
 use lib.Dec.{lit≤}
-use Rattle.rto.proofs.Floor.{no_nan, exponent_within, from_bits}
+use Rattle.rto.proofs.Floor.{exponent_within, from_bits}
 use Rattle.rto_cells.proofs.usual_spread.Goals as goal
-
-pub float_to_bits-bits : goal.float_to_bits-bits
-float_to_bits-bits c = no_nan c.args.rttvar c.requires
 
 pub overflow_sub-result : goal.overflow_sub-result
 overflow_sub-result c = le_trans (exponent_within c.args.rttvar c.requires c.well_formed.0.1).1 (lit≤ tt)

@@ -9,7 +9,7 @@ use Rattle.sender_asks.proofs.contains_stream.Goals as goal
 pub returns : goal.returns
 returns c =
     let a = c.args in
-    let h = a.h in
+    let h = a.h.now in
     let ws = a.cells.now in
     let k = c.table_words-k.ensures.0 in
     c.contains_stream.ensures ∙ ap (λ (s : Sender). has_stream a.identifier (s.pending.unordered ++ s.pending.ordered ++ s.flight.entries)) (lent_sender h ws _ k)

@@ -8,7 +8,7 @@ use Rattle.sender_asks.proofs.is_abandoned.Goals as goal
 pub returns : goal.returns
 returns c =
     let a = c.args in
-    let h = a.h in
+    let h = a.h.now in
     let ws = a.cells.now in
     let k = c.table_words-k.ensures.0 in
     c.is_abandoned.ensures ∙ ap (λ (s : Sender). is_abandoned (in_flight a.tsn s.flight)) (lent_sender h ws _ k)

@@ -7,7 +7,7 @@ use Rattle.sender_asks.proofs.next_tsn.Goals as goal
 pub returns : goal.returns
 returns c =
     let a = c.args in
-    let h = a.h in
+    let h = a.h.now in
     let ws = a.cells.now in
     let k = c.table_words-k.ensures.0 in
     c.next_tsn.ensures (open_streams h ws _ k) ∙ ap (λ (s : Sender). next_tsn s) (lent_sender h ws _ k)

@@ -9,7 +9,7 @@ use Rattle.sender_asks.proofs.peek_pending.Goals as goal
 pub returns : goal.returns
 returns c =
     let a = c.args in
-    let h = a.h in
+    let h = a.h.now in
     let ws = a.cells.now in
     let k = c.table_words-k.ensures.0 in
     c.peek_pending.ensures ∙ ap (λ (s : Sender). found (head s.pending)) (lent_sender h ws _ k)

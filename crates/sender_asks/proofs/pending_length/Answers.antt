@@ -9,7 +9,7 @@ use Rattle.sender_asks.proofs.pending_length.Goals as goal
 pub returns : goal.returns
 returns c =
     let a = c.args in
-    let h = a.h in
+    let h = a.h.now in
     let ws = a.cells.now in
     let k = c.table_words-k.ensures.0 in
     c.pending_len.ensures ∙ ap (λ (s : Sender). length s.pending.unordered + length s.pending.ordered) (lent_sender h ws _ k)

@@ -9,5 +9,5 @@ pub returns : goal.returns
 returns c =
     let a = c.args in
     let k = c.table_words-k.ensures.0 in
-    let m = c.abandon-abandoning in
-    leans_in_lent a.h a.cells.now _ k m.result.queue m.new.cells (search rules) (λ room. lean_abandon room a.tsn) (λ room. abandon a.tsn) m.ensures
+    let m = c.abandon in
+    leans_in_lent a.h.now a.cells.now _ k m.new.q m.new.cells (search rules) (λ room. lean_abandon room a.tsn) (λ room. abandon a.tsn) m.ensures

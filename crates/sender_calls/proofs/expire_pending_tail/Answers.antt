@@ -10,5 +10,5 @@ pub returns : goal.returns
 returns c =
     let a = c.args in
     let k = c.table_words-k.ensures.0 in
-    let m = c.expire_pending_tail-expiring in
-    leans_in_or_stays_lent a.h a.cells.now _ k m.result.queue m.new.cells (search rules) told_tail (λ room. lean_expire_tail room a.clock) (λ room. expire_pending_tail a.clock) m.ensures
+    let m = c.expire_pending_tail in
+    leans_in_or_stays_lent a.h.now a.cells.now _ k m.new.q m.new.cells (search rules) told_tail (λ room. lean_expire_tail room a.clock) (λ room. expire_pending_tail a.clock) m.ensures

@@ -10,5 +10,5 @@ pub returns : goal.returns
 returns c =
     let a = c.args in
     let k = c.table_words-k.ensures.0 in
-    let m = c.start_timed_messages-started in
-    leans_or_stays_lent a.h a.cells.now _ k m.result.queue m.new.cells (search rules) told_done (lean_start a.clock) (start_lifetimes a.clock) m.ensures
+    let m = c.start_timed_messages in
+    leans_or_stays_lent a.h.now a.cells.now _ k m.new.q m.new.cells (search rules) told_done (lean_start a.clock) (start_lifetimes a.clock) m.ensures

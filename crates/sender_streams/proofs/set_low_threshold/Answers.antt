@@ -1,16 +1,12 @@
 -- The stream found, with another threshold, goes back to its place.
-use mathlib.Core.Path.{refl, sym, ◌∙◌}
-use Rattle.sender_head.specs.Whole.{sender_of}
-use Rattle.sender_streams.specs.Changes.{low_refused, low_set}
+use mathlib.Core.Path.{refl}
+use borrow.Author.Rules.{rules}
+use Rattle.model.specs.Streams.{thresholds, set_low}
+use Rattle.sender_streams.specs.Changes.{settings_told}
 use Rattle.sender_streams.proofs.set_low_threshold.Goals as goal
 
-pub returns-in_default : goal.returns-in_default
-returns-in_default c =
-    let a = c.args in
-    ((low_refused a.identifier (sender_of a.h a.cells.now) (sym c.in_default.is ∙ c.seek-place.ensures) a.low, λ k. k), λ n. (refl, refl))
-
 pub returns : goal.returns
+unfolding set_low
 returns c =
     let a = c.args in
-    let r = c.replace.ensures in
-    ((low_set a.identifier (sender_of a.h a.cells.now) c.in-At.i c.in-At.old (sym c.in-At.is ∙ c.seek-place.ensures) r.0 a.low c.set_buffered_amount_low_threshold-changed.ensures, r.1), λ n. absurd (n refl))
+    settings_told a.identifier a.h.now a.cells.now c.change.new.cells (λ t. thresholds a.low t.high t) (λ t. refl) (λ t x u q. search rules) c.change.result c.change.ensures

@@ -15,9 +15,9 @@ use Rattle.sender_write.proofs.enqueue.Goals as goal
 pub returns : goal.returns
 returns c =
     let a = c.args in
-    let m = c.push-pushed in
+    let m = c.push in
     let w = c.table_words-k in
     let ws = a.cells.now in
     let x = c.message-message in
-    let g = goes_or_stays_lent a.h ws w.result w.ensures.0 m.result.queue m.new.cells (search rules) told_done (pushing (ring_room (part w.result (length ws) ws)) x.result a.stream.maximum a.offset a.length) m.ensures in
-    ((g.0.0 ∙ ap₂ (λ (room : ℕ) (y : Message). pushing room y a.stream.maximum a.offset a.length (sender_of a.h ws)) (sym (lent_room a.h ws w.result w.ensures.0)) x.ensures, g.0.1), g.1)
+    let g = goes_or_stays_lent a.h.now ws w.result w.ensures.0 m.new.q m.new.cells (search rules) told_done (pushing (ring_room (part w.result (length ws) ws)) x.result a.stream.now.maximum a.offset a.length) m.ensures in
+    ((g.0.0 ∙ ap₂ (λ (room : ℕ) (y : Message). pushing room y a.stream.now.maximum a.offset a.length (sender_of a.h.now ws)) (sym (lent_room a.h.now ws w.result w.ensures.0)) x.ensures, g.0.1), g.1)

@@ -1,7 +1,6 @@
 -- The smallest of the deadlines passed: with that of the others it is the smallest of all.
 use mathlib.Core.Path.{◌≡◌}
 use mathlib.Core.List.{map}
-use Prim.Native.Nat.{◌-◌}
 use lib.ListN.{drop}
 use Rattle.limits.specs.Moments.{earlier}
 use Rattle.timer.specs.Entries.{order}
@@ -10,8 +9,5 @@ use Rattle.timer_cells.specs.Words.{table_of}
 use Rattle.timer_cells.proofs.Laws.{none}
 use Rattle.timer_cells.proofs.next_timeout.Given as goal
 
-abbrev pub invariant-loop-i : goal.invariant-loop-i
-invariant-loop-i l = earlier l.next (soonest (map (get_of (table_of none l.cells)) (drop l.i order))) ≡ next_timeout_of (table_of none l.cells)
-
-abbrev pub decreases-loop-i : goal.decreases-loop-i
-decreases-loop-i l = 6 - l.i
+abbrev pub invariant-loop-timer : goal.invariant-loop-timer
+invariant-loop-timer l = earlier l.next (soonest (map (get_of (table_of none l.cells)) (drop l.timer order))) ≡ next_timeout_of (table_of none l.cells)

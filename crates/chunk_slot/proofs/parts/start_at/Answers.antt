@@ -61,5 +61,5 @@ pub returns : goal.returns
 returns c =
     let a = c.args in
     let ws = a.cells.now in
-    start_slot a.i ws (omega arith) c.within.result a.unstarted c.with_deadline-timed.result (omega arith) c.if-marks-ne2.false c.if-types-eq50.false c.with_deadline-timed.ensures
-    ∙ ap (λ (t : ℕ). adjust (started t a.unstarted) a.i (chunks ws)) c.within.ensures
+    start_slot a.i ws (omega arith) c.min.result a.unstarted c.with_deadline-timed.result (omega arith) c.if-marks-ne2.false c.if-types-eq50.false c.with_deadline-timed.ensures
+    ∙ ap (λ (t : ℕ). adjust (started t a.unstarted) a.i (chunks ws)) c.min.ensures

@@ -1,22 +1,15 @@
--- By the case.
-use mathlib.Core.Path.{◌∙◌}
-use Rattle.model.specs.declared.Found.{Found}
+-- The five words, and the chunk behind them.
+use Rattle.std.proofs.Common.{◌∙◌}
 use Rattle.model.specs.Calls.{to_find}
+use Rattle.model.specs.Answers.{Found}
 use Rattle.coded_calls.specs.Words.{chunk_words, words}
 use Rattle.coded_calls.specs.Worded.{worded}
 use Rattle.coded_calls.proofs.answers.put_found.Goals as goal
 
-pub returns-in-Nothing : goal.returns-in-Nothing
-returns-in-Nothing c =
+pub returns-in-Some : goal.returns-in-Some
+returns-in-Some c =
     let a = c.args in
-    let ws = a.tape.now in
-    let p = c.put_five in
-    worded (λ (x : Found). words (to_find x)) ws p.new.tape a.at p.result c.in-Nothing.is p.ensures
-
-pub returns-in-One : goal.returns-in-One
-returns-in-One c =
-    let a = c.args in
-    let ws = a.tape.now in
-    let p = c.put_five-behind in
+    let t = a.tape.now in
+    let p = c.put_all-in-Some in
     let q = c.put_chunk in
-    worded (λ (x : Found). words (to_find x)) ws q.new.tape a.at q.result c.in-One.is (λ us. q.ensures us ∙ p.ensures (chunk_words c.in-One.chunk us))
+    (q.ensures.0 ∙ p.ensures.0, worded (λ (x : Found). words (to_find x)) t.words.now q.new.tape.words.now t.at q.new.tape.at c.in-Some.is (λ us. q.ensures.1 us ∙ p.ensures.1 (chunk_words c.in-Some.chunk us)))

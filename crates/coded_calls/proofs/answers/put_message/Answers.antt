@@ -1,19 +1,18 @@
 -- Word by word.
-use mathlib.Core.Path.{◌∙◌}
-use mathlib.Core.List.{◌∷◌}
-use lib.Seq.{sets}
+use Rattle.std.proofs.Common.{◌∷◌, ap, ◌∙◌}
+use Rattle.std.proofs.lemmas.List.Edits.{sets}
+use Rattle.cells.specs.Words.{bit_of}
 use Rattle.coded_calls.proofs.answers.put_message.Goals as goal
 
 pub returns : goal.returns
 returns c =
     let a = c.args in
     let m = a.message in
-    let ws = a.tape.now in
-    let p = c.put_five-second in
-    let q = c.put_five in
     let flag = c.bit.ensures.0 in
-    let is = c.present.ensures in
-    let when = c.time.ensures in
-    λ us.
-    q.ensures us ∙ p.ensures (m.reliability.kind ∷ m.reliability.value ∷ c.present.result ∷ c.time.result ∷ 0 ∷ us)
-    ∙ (λ i. sets ws a.at (m.stream ∷ m.ssn ∷ flag i ∷ m.protocol ∷ m.number ∷ m.reliability.kind ∷ m.reliability.value ∷ is i ∷ when i ∷ 0 ∷ us))
+    let there = c.bit-2.ensures.0 ∙ ap bit_of c.is_some.ensures in
+    let when = c.unwrap_or.ensures in (
+      c.put_all.ensures.0,
+      λ us.
+          c.put_all.ensures.1 us
+          ∙ (λ i. sets a.tape.now.words.now a.tape.now.at (m.stream ∷ m.ssn ∷ flag i ∷ m.protocol ∷ m.number ∷ m.reliability.kind ∷ m.reliability.value ∷ there i ∷ when i ∷ 0 ∷ us)),
+    )

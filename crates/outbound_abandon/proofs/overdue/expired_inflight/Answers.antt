@@ -11,7 +11,7 @@ pub returns-then-clock-gt-CLOCK_MAX : goal.returns-then-clock-gt-CLOCK_MAX
 returns-then-clock-gt-CLOCK_MAX c =
     let a = c.args in
     let ws = a.cells.now in (
-      λ room ts. finds a.clock a.q.inflight.due (sender_of ts a.q ws) a.out.now (λ k. k.1.1) (list_late a.clock a.q.inflight.due (sender_of ts a.q ws) a.out.now c.if-clock-gt-CLOCK_MAX.true),
+      λ room ts. finds a.clock a.q.now.inflight.due (sender_of ts a.q.now ws) a.out.now (λ k. k.1.1) (list_late a.clock a.q.now.inflight.due (sender_of ts a.q.now ws) a.out.now c.if-clock-gt-CLOCK_MAX.true),
       (λ ts. refl, λ k. k),
       λ n. refl,
     )
@@ -20,7 +20,7 @@ pub returns-then-clock-q : goal.returns-then-clock-q
 returns-then-clock-q c =
     let a = c.args in
     let ws = a.cells.now in (
-      λ room ts. finds a.clock a.q.inflight.due (sender_of ts a.q ws) a.out.now (λ k. k.1.1) (list_early a.clock a.q.inflight.due (sender_of ts a.q ws) a.out.now c.if-clock-gt-CLOCK_MAX.false c.if-clock-q.true),
+      λ room ts. finds a.clock a.q.now.inflight.due (sender_of ts a.q.now ws) a.out.now (λ k. k.1.1) (list_early a.clock a.q.now.inflight.due (sender_of ts a.q.now ws) a.out.now c.if-clock-gt-CLOCK_MAX.false c.if-clock-q.true),
       (λ ts. refl, λ k. k),
       λ n. refl,
     )
@@ -28,11 +28,11 @@ returns-then-clock-q c =
 pub returns : goal.returns
 returns c =
     let a = c.args in
-    let q = a.q in
+    let q = a.q.now in
     let ws = a.cells.now in
     let o = a.out.now in
     let w = c.under_way-awaited in
-    let m = c.expired-found in
+    let m = c.expired in
     let e = m.ensures in (
       λ room ts.
           let s = sender_of ts q ws in

@@ -9,17 +9,17 @@ use Rattle.outbound_abandon.proofs.overdue.under_way.Goals as goal
 pub returns-then-q-eq0 : goal.returns-then-q-eq0
 returns-then-q-eq0 c =
     let a = c.args in
-    let p = a.q.pending in
-    named_idle (is_set p.unordered_is_selected) (head (waiting a.q (rings_in a.cells.now))) (not_set c.if-q-eq0.true)
+    let p = a.q.now.pending in
+    named_idle (is_set p.unordered_is_selected) (head (waiting a.q.now (rings_in a.cells.now))) (not_set c.if-q-eq0.true)
 
-pub returns-in_default : goal.returns-in_default
-returns-in_default c =
+pub returns-in_err-chunk : goal.returns-in_err-chunk
+returns-in_err-chunk c =
     let a = c.args in
-    let p = waiting a.q (rings_in a.cells.now) in
-    named_none p.under_way (head p) (sym c.peek_pending-front.ensures ∙ c.in_default.is)
+    let p = waiting a.q.now (rings_in a.cells.now) in
+    c.from_residual.ensures ∙ named_none p.under_way (head p) (sym c.peek_pending.ensures ∙ c.in_err-chunk.was)
 
 pub returns : goal.returns
 returns c =
     let a = c.args in
-    let p = a.q.pending in
-    named_head (is_set p.unordered_is_selected) (head (waiting a.q (rings_in a.cells.now))) c.in-One.chunk (is_set_lem c.if-q-eq0.false) (sym c.peek_pending-front.ensures ∙ c.in-One.is)
+    let p = a.q.now.pending in
+    named_head (is_set p.unordered_is_selected) (head (waiting a.q.now (rings_in a.cells.now))) c.in_ok-chunk.chunk (is_set_lem c.if-q-eq0.false) (sym c.peek_pending.ensures ∙ c.in_ok-chunk.was)

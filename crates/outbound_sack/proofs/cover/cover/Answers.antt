@@ -1,5 +1,5 @@
 -- The entries go, and the counter gives back what they held.
-use Rattle.std.proofs.Common.{ap, arith}
+use Rattle.std.proofs.Common.{refl, ap, arith}
 use Rattle.model.specs.Rings.{bytes}
 use Rattle.ring.specs.Held.{held}
 use Rattle.payload_queue.specs.Queue.{least_due}
@@ -12,14 +12,13 @@ returns c =
     let a = c.args in
     let ws = a.cells.now in
     let n = c.sum-released in
-    let rest = c.shorter_by-rest in
-    let s = c.wrapping_sub_u64-left in
+    let rest = c.drop_front in
     let e = ap bytes rest.ensures in (
       (
-        flight_is c.wrapping_add_u32-next.ensures.value rest.ensures,
+        flight_is refl rest.ensures,
         λ h. (
-          counted_less a.q ws rest.result ws n.result s.result (omega arith) (omega (arith, n.ensures, e)) s.ensures.value h.0,
-          omega (arith, h.1, ap least_due rest.ensures, least_drop a.k (held a.q.ring ws)),
+          counted_less a.q.now ws rest.new.self ws n.result _ (omega arith) (omega (arith, n.ensures, e)) (omega arith) h.0,
+          omega (arith, h.1, ap least_due rest.ensures, least_drop a.k (held a.q.now.ring ws)),
         ),
       ),
       omega (arith, n.ensures, e),

@@ -11,7 +11,7 @@ use Rattle.outbound_sack.proofs.gaps.note_ends.Goals as goal
 pub loop-i-init : goal.loop-i-init
 loop-i-init c =
     let a = c.args in
-    (omega arith, ap (λ (m : ℕ). noted_all (a.from + 1) (blocks_from m 0 a.part.now) a.ends.now) (sub-zero a.count))
+    ap (λ (m : ℕ). noted_all (a.from + 1) (blocks_from m 0 a.part.now) a.ends.now) (sub-zero a.count)
 
 pub loop-i-preserved : goal.loop-i-preserved
 loop-i-preserved c =
@@ -20,8 +20,8 @@ loop-i-preserved c =
     let q = a.part.now in
     let k = a.from + 1 in
     let rest = blocks_from (a.count - (l.i + 1)) (l.i + 1) q in
-    let n = c.note.ensures ∙ ap (λ (b : Block). noted k b l.ends) c.block-block.ensures in
-    (omega arith, ap (noted_all k rest) n ∙ sym (ap (λ (bs : List Block). noted_all k bs l.ends) (next_block a.count l.i q (omega arith))) ∙ l.invariant.1)
+    let n = c.note.ensures ∙ ap (λ (b : Block). noted k b l.ends) c.block.ensures in
+    ap (noted_all k rest) n ∙ sym (ap (λ (bs : List Block). noted_all k bs l.ends) (next_block a.count l.i q (omega arith))) ∙ l.invariant
 
 pub shape_of-ends : goal.shape_of-ends
 shape_of-ends c =
@@ -29,7 +29,7 @@ shape_of-ends c =
     let l = c.loop-i in
     let q = a.part.now in
     let k = a.from + 1 in
-    sym (same_long k (blocks_from (a.count - l.i) l.i q) l.ends) ∙ ap length l.invariant.1 ∙ same_long k (blocks_from a.count 0 q) a.ends.now
+    sym (same_long k (blocks_from (a.count - l.i) l.i q) l.ends) ∙ ap length l.invariant ∙ same_long k (blocks_from a.count 0 q) a.ends.now
 
 pub returns : goal.returns
 returns c =
@@ -37,4 +37,4 @@ returns c =
     let l = c.loop-i in
     let q = a.part.now in
     let k = a.from + 1 in
-    sym (ap (λ (bs : List Block). noted_all k bs l.ends) (no_block a.count l.i q (omega arith))) ∙ l.invariant.1
+    sym (ap (λ (bs : List Block). noted_all k bs l.ends) (no_block a.count l.i q (omega arith))) ∙ l.invariant

@@ -7,8 +7,5 @@ use Rattle.pending_queue.proofs.cutting.cut_into.Given as goal
 
 abbrev pub invariant-loop-k : goal.invariant-loop-k
 invariant-loop-k l =
-    (length l.cells ≡ length l.initial.cells) × (length (held l.longer l.cells) + l.k ≤ room_of l.initial.cells) × (l.from + l.k * 65535 ≤ 562949953421312)
-    × (held l.longer l.cells ++ cut l.message l.first l.k l.maximum l.from l.left ≡ held l.initial.longer l.initial.cells ++ cut l.message true (pieces l.length l.maximum) l.maximum l.offset l.length)
-
-abbrev pub decreases-loop-k : goal.decreases-loop-k
-decreases-loop-k l = l.k
+    (length l.cells ≡ length l.initial.cells) × (length (held l.ring l.cells) + l.k ≤ room_of l.initial.cells) × (l.from + l.k * 65535 ≤ 562949953421312)
+    × (held l.ring l.cells ++ cut l.message l.first l.k l.maximum l.from l.left ≡ held l.initial.ring l.initial.cells ++ cut l.message true (pieces l.length l.maximum) l.maximum l.offset l.length)

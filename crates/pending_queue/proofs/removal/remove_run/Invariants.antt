@@ -6,8 +6,6 @@ use Rattle.ring.specs.Held.{held}
 use Rattle.pending_queue.specs.Runs.{Taking}
 use Rattle.pending_queue.proofs.removal.remove_run.Given as goal
 
-abbrev pub invariant-loop-n : goal.invariant-loop-n
-invariant-loop-n l = (l.n ≡ length (held l.rest l.cells)) × (l.initial.n ≤ limit) × (l.bytes + l.n * 4294967295 ≤ l.initial.n * 4294967295) × Taking (is_of l.number) (held l.initial.rest l.cells) (held l.rest l.cells) l.bytes l.last
-
-abbrev pub decreases-loop-n : goal.decreases-loop-n
-decreases-loop-n l = l.n
+abbrev pub invariant-loop : goal.invariant-loop
+invariant-loop l =
+    (l.counter + length (held l.ring l.cells) ≡ l.end) × (l.end ≤ limit) × (l.bytes ≤ l.counter * 4294967295) × Taking (is_of l.number) (held l.initial.ring l.cells) (held l.ring l.cells) l.bytes l.last

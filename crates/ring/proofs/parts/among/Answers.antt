@@ -9,16 +9,15 @@ use Rattle.rows.specs.Turns.{part_none}
 use Rattle.cells.specs.Slots.{length_slots}
 use Rattle.chunk_slot.specs.Chunks.{chunk_in, chunks}
 use Rattle.ring.proofs.parts.among.Goals as goal
-use Rattle.ring.proofs.parts.among.Goals.{else-to-room, then-to-room}
 
 pub returns-then-end-from : goal.returns-then-end-from
 returns-then-end-from c =
     let a = c.args in
     let n = length_slots chunk_in a.cells.now in
-    sym (ap (has_stream a.stream) (part_none (chunks a.cells.now) a.from a.to (elim c.if-to-room.branch [ then-to-room w ↦ omega (arith, n) | else-to-room w ↦ omega (arith, n) ])))
+    sym (ap (has_stream a.stream) (part_none (chunks a.cells.now) a.from a.to (omega (arith, n))))
 
 pub loop-at-init : goal.loop-at-init
-loop-at-init c = (omega arith, elim c.if-to-room.branch [ then-to-room w ↦ omega arith | else-to-room w ↦ omega arith ], refl)
+loop-at-init c = (omega arith, omega arith, refl)
 
 pub returns-then-among_four : goal.returns-then-among_four
 returns-then-among_four c =

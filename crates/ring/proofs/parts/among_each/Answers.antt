@@ -10,28 +10,24 @@ use Rattle.rows.specs.Walks.{some_hit, some_miss}
 use Rattle.cells.specs.Slots.{length_slots}
 use Rattle.chunk_slot.specs.Chunks.{chunk_in, chunks, blank_chunk}
 use Rattle.ring.proofs.parts.among_each.Goals as goal
-use Rattle.ring.proofs.parts.among_each.Goals.{else-to-room, then-to-room}
-
-pub loop-at-init : goal.loop-at-init
-loop-at-init c = (elim c.if-to-room.branch [ then-to-room w ↦ omega arith | else-to-room w ↦ omega arith ], refl)
 
 pub returns-then-stream_at-stream : goal.returns-then-stream_at-stream
 returns-then-stream_at-stream c =
     let a = c.args in
     let l = chunks a.cells.now in
     let t = c.loop-at in
-    sym (some_hit (λ (d : Chunk). eqb d.message.stream a.stream) (part_turn l t.at a.to blank_chunk refl (omega (arith, length_slots chunk_in a.cells.now))) (eq-eqb _ _ (sym c.stream_at.ensures ∙ c.if-stream_at-stream.true))) ∙ t.invariant.1
+    sym (some_hit (λ (d : Chunk). eqb d.message.stream a.stream) (part_turn l t.at a.to blank_chunk refl (omega (arith, length_slots chunk_in a.cells.now))) (eq-eqb _ _ (sym c.stream_at.ensures ∙ c.if-stream_at-stream.true))) ∙ t.invariant
 
 pub loop-at-preserved : goal.loop-at-preserved
 loop-at-preserved c =
     let a = c.args in
     let l = chunks a.cells.now in
     let t = c.loop-at in
-    (t.invariant.0, sym (some_miss (λ (d : Chunk). eqb d.message.stream a.stream) (part_turn l t.at a.to blank_chunk refl (omega (arith, length_slots chunk_in a.cells.now))) (ne_eqb _ _ (λ e. c.if-stream_at-stream.false (c.stream_at.ensures ∙ e)))) ∙ t.invariant.1)
+    sym (some_miss (λ (d : Chunk). eqb d.message.stream a.stream) (part_turn l t.at a.to blank_chunk refl (omega (arith, length_slots chunk_in a.cells.now))) (ne_eqb _ _ (λ e. c.if-stream_at-stream.false (c.stream_at.ensures ∙ e)))) ∙ t.invariant
 
 pub returns : goal.returns
 returns c =
     let a = c.args in
     let l = chunks a.cells.now in
     let t = c.loop-at in
-    sym (ap (has_stream a.stream) (part_none l t.at a.to (omega (arith, length_slots chunk_in a.cells.now)))) ∙ t.invariant.1
+    sym (ap (has_stream a.stream) (part_none l t.at a.to (omega (arith, length_slots chunk_in a.cells.now)))) ∙ t.invariant

@@ -1,7 +1,8 @@
 -- `RtoManager::reset` is right since the flag alone decides whether the blank numbers are put in. Assumes nothing.
+use Rattle.std.proofs.Common.{rules}
 use lib.Ieee.{of_bits, of_int}
 use Rattle.rto.proofs.RtoManager.reset.Goals as goal
 
-pub returns : goal.returns
+pub returns-then-not-self : goal.returns-then-not-self
 unfolding of_bits of_int
-returns c = simp c.if-self.false
+returns-then-not-self c = search rules

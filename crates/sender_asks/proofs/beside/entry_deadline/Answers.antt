@@ -5,5 +5,5 @@ use Rattle.sender_asks.proofs.beside.entry_deadline.Goals as goal
 pub returns-then-chunk : goal.returns-then-chunk
 returns-then-chunk c = abandoned_none c.args.chunk c.if-chunk.true
 
-pub returns : goal.returns
-returns c = other_has c.args.chunk c.if-chunk.false
+pub returns-else-chunk : goal.returns-else-chunk
+returns-else-chunk c = other_has c.args.chunk c.if-chunk.false

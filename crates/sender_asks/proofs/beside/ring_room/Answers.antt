@@ -12,6 +12,6 @@ use Rattle.sender_asks.proofs.beside.ring_room.Goals as goal
 pub returns : goal.returns
 returns c =
     let a = c.args in
-    let h = a.h in
+    let h = a.h.now in
     let k = c.table_words-k.ensures.0 in
     c.left_in.ensures ∙ ap (λ (ws : List ℕ). ring_room ws - length (at (lane_of a.unordered) (waiting_in h.queue ws))) (queue_is h a.cells.now _ k)

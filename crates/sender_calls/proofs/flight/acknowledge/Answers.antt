@@ -8,5 +8,5 @@ pub returns : goal.returns
 returns c =
     let a = c.args in
     let k = c.table_words-k.ensures.0 in
-    let m = c.mark_as_acked-acked in
-    goes_lent a.h a.cells.now _ k m.result.queue m.new.cells (search rules) (acknowledge a.tsn) m.ensures
+    let m = c.mark_as_acked in
+    goes_lent a.h.now a.cells.now _ k m.new.self m.new.cells (search rules) (acknowledge a.tsn) m.ensures

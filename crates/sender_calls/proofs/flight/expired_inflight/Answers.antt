@@ -6,4 +6,4 @@ pub returns : goal.returns
 returns c =
     let a = c.args in
     let k = c.table_words-k.ensures.0 in
-    finds_lent a.h a.cells.now _ k _ a.clock a.out.now c.expired_inflight-found.ensures
+    finds_lent a.h.now a.cells.now _ k _ a.clock a.out.now c.expired_inflight.ensures

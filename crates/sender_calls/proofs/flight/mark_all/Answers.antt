@@ -9,4 +9,4 @@ returns c =
     let a = c.args in
     let k = c.table_words-k.ensures.0 in
     let m = c.mark_all_to_retransmit in
-    becomes_lent a.h a.cells.now _ k a.h.queue m.new.cells (search rules) mark_all m.ensures
+    becomes_lent a.h.now a.cells.now _ k a.h.now.queue m.new.cells (search rules) mark_all m.ensures

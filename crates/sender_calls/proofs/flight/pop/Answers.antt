@@ -7,5 +7,5 @@ pub returns : goal.returns
 returns c =
     let a = c.args in
     let k = c.table_words-k.ensures.0 in
-    let m = c.pop-rest in
-    goes_read a.h a.cells.now _ k m.result.queue (pop a.tsn) m.ensures
+    let m = c.pop in
+    goes_read a.h.now a.cells.now _ k m.new.self (pop a.tsn) m.ensures

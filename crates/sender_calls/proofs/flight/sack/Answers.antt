@@ -10,6 +10,6 @@ pub returns : goal.returns
 returns c =
     let a = c.args in
     let k = c.table_words-k.ensures.0 in
-    let m = c.handle_sack-sacking in
+    let m = c.handle_sack in
     let room = room_in a.cells.now in
-    goes_or_stays_lent a.h a.cells.now _ k m.result.queue m.new.cells (search rules) told_sacked (sack room a.packet.now) (m.ensures room)
+    goes_or_stays_lent a.h.now a.cells.now _ k m.new.q m.new.cells (search rules) told_sacked (sack room a.packet.now) (m.ensures room)

@@ -1,6 +1,6 @@
--- `timer::TimerTable::is_expired` refuses what the limit refuses, then asks whether the deadline is reached. Assumes nothing.
-use borrow.Author.Tests.{lt-leb}
+-- `timer::TimerTable::is_expired` is the expiry of the timer's entry (`whole`). Assumes nothing.
+use Rattle.timer.proofs.Laws.{whole}
 use Rattle.timer.proofs.TimerTable.is_expired.Goals as goal
 
-pub returns-then-after-gt-CLOCK_MAX : goal.returns-then-after-gt-CLOCK_MAX
-returns-then-after-gt-CLOCK_MAX c = simp (lt-leb _ _ c.if-after-gt-CLOCK_MAX.true)
+pub returns : goal.returns
+returns c = simp (whole c.args.self.now c.args.timer c.args.after, c.expire.ensures.answer, c.expire.ensures.left, c.index.ensures.exact)

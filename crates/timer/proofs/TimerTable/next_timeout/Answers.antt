@@ -1,29 +1,18 @@
--- `timer::TimerTable::next_timeout` keeps the smallest deadline of the timers passed: with that of the others it is the smallest of all. Assumes nothing.
-use mathlib.Core.Path.{refl, sym, ◌∙◌}
-use native.Mathlib.Omega.{arith}
-use lib.ListN.{drop_of_length-le}
+-- `timer::TimerTable::next_timeout` folds the deadlines in turn, which gives the smallest of all (`soonest_is`). Assumes nothing.
+use mathlib.Core.List.{map}
+use mathlib.Core.Path.{◌∙◌}
+use Rattle.std.proofs.Common.{rules, tests, None}
+use Rattle.std.proofs.lemmas.Iterator.{YieldsList-from_slice, YieldsList-from_map}
+use Rattle.std.proofs.lemmas.Iterator.Consumers.{YieldsList-at, fold_from_yields_List}
+use Rattle.limits.specs.Moments.{earlier}
 use Rattle.timer.specs.Entries.{order}
-use Rattle.timer.proofs.Laws.{at_value, at_nothing, earlier_absent, one_more}
+use Rattle.timer.specs.Calls.{get_of}
+use Rattle.timer.proofs.Laws.{soonest_is}
 use Rattle.timer.proofs.TimerTable.next_timeout.Goals as goal
 
-pub loop-timer-init : goal.loop-timer-init
-loop-timer-init c = refl
-
-pub returns-in_default : goal.returns-in_default
-returns-in_default c =
-    let head = c in
-    let past = at_nothing head.loop-timer.i (sym c.at.ensures ∙ c.in_default.is) in
-    sym (earlier_absent head.loop-timer.next) ∙ rw (drop_of_length-le order {i = head.loop-timer.i} past) at head.loop-timer.invariant
-
-pub overflow_add-i : goal.overflow_add-i
-overflow_add-i c = let seen = at_value c.loop-timer.i _ (sym c.at.ensures ∙ c.in-Value.is) in omega (arith, seen.0)
-
-pub loop-timer-smaller : goal.loop-timer-smaller
-loop-timer-smaller c = let seen = at_value c.loop-timer.i _ (sym c.at.ensures ∙ c.in-Value.is) in omega (arith, seen.0)
-
-pub loop-timer-preserved : goal.loop-timer-preserved
-loop-timer-preserved c =
-    let head = c in
-    let seen = at_value c.loop-timer.i _ (sym c.at.ensures ∙ c.in-Value.is) in
-    simp (c.earlier-next.ensures, c.get.ensures, sym seen.1)
-    (one_more head.args.self head.loop-timer.i head.loop-timer.next seen.0 ∙ head.loop-timer.invariant)
+pub returns : goal.returns
+returns c =
+    fold_from_yields_List _ earlier None c.fold.result c.fold.ensures.ran
+    (YieldsList-from_map _ (get_of c.args.self.now) (YieldsList-at c.map.ensures.source (YieldsList-from_slice order (cc))) c.map.ensures.closure (λ x r q k. search (rules, tests)))
+    (λ a x b q k. search (rules, tests))
+    ∙ soonest_is (map (get_of c.args.self.now) order)

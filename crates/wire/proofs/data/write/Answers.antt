@@ -1,28 +1,18 @@
--- Refusals come before the first store; then header, payload and zeros stand one behind the other.
-use Rattle.wire.specs.DataWrites.{no_room, all_put, not_within}
-use Prim.Native.Nat.{◌+◌, ◌-◌}
-use mathlib.Core.Path.{refl}
-use native.Mathlib.Omega.{arith}
+-- Header, payload and zeros stand one behind the other.
+use Rattle.std.proofs.Common.{◌≡◌, ◌-◌, drop, take, ap, ◌∙◌, arith}
+use Rattle.std.proofs.lemmas.List.{take_rest}
+use Rattle.std.proofs.lemmas.List.Edits.{sets}
+use Rattle.wire.specs.DataWrites.{all_put}
 use Rattle.wire.proofs.data.write.Goals as goal
 
-pub returns-then-lent-chunk : goal.returns-then-lent-chunk
-returns-then-lent-chunk c = let a = c.args in
-    let l = a.bytes.now in
-    not_within a.tsn a.chunk l a.out.now (omega arith)
-
-pub returns-then-lent-from : goal.returns-then-lent-from
-returns-then-lent-from c = let a = c.args in
-    let l = a.bytes.now in
-    not_within a.tsn a.chunk l a.out.now (omega arith)
-
-pub returns-then-out-whole : goal.returns-then-out-whole
-returns-then-out-whole c = let a = c.args in
-    let l = a.bytes.now in
-    no_room a.tsn a.chunk l (omega arith) a.out.now (omega (arith, c.zeros_behind-zeros.ensures.0))
-
 pub returns : goal.returns
-returns c = let a = c.args in
+returns c =
+    let a = c.args in
     let l = a.bytes.now in
     let x = a.chunk in
     let z = c.zeros_behind-zeros.ensures.0 in
-    all_put a.tsn x l (omega arith) a.out.now (x.offset + x.length - x.offset) (omega (arith, z)) (omega arith) z refl c.put_header.ensures c.copy.ensures c.clear.ensures
+    let rest = rw c.in_ok-rest.ensures.ok_part at c.get.ensures.lookup.0 in
+    let payload = rw c.in_ok-payload.ensures.ok_part at c.get-2.ensures.lookup.0 in
+    let k : x.length - 0 ≡ x.length = omega arith in
+    let behind : c.in_ok-rest.rest.now ≡ drop x.offset l = rest.2 ∙ take_rest l x.offset in
+    all_put a.tsn x l (omega (arith, rest.3, payload.1)) a.out.now (omega (arith, z)) z c.put_header.ensures (c.copy.ensures ∙ ap (sets c.put_header.new.out 16) (payload.2 ∙ (λ i. take (k i) (behind i)))) c.clear.ensures

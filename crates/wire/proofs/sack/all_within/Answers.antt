@@ -1,32 +1,20 @@
--- What is left to look at decides as all blocks do.
-use Prim.Native.Nat.{ℕ}
-use native.Mathlib.Nat.{sub-zero}
-use Rattle.model.specs.Sack.{blocks_from, all_within}
-use Rattle.wire.specs.SackWalks.{no_block, is_within, not_within}
-use mathlib.Core.Path.{sym, ap, ◌∙◌}
-use Prim.Native.Nat.{ℕ}
-use native.Mathlib.Omega.{arith}
+-- That each of the first numbers has a block within is that all blocks are.
+use Rattle.std.proofs.Common.{◌≡◌, ℕ, zero, suc, ◌+◌, Bool, ◌&&◌, List, refl, ap, ◌∙◌, arith, rules, tests}
+use Rattle.std.specs.List.{list_all, range_with_len}
+use Rattle.std.proofs.lemmas.Iterator.{YieldsList-from_range}
+use Rattle.std.proofs.lemmas.Iterator.Search.{all_from_yields_List}
+use Rattle.model.specs.Sack.{block_at, blocks_from, within, all_within}
 use Rattle.wire.proofs.sack.all_within.Goals as goal
 
-pub loop-i-init : goal.loop-i-init
-loop-i-init c = let a = c.args in (omega arith, ap (λ (m : ℕ). all_within a.left (blocks_from m 0 a.part.now)) (sub-zero a.count))
-
-pub returns-then-not-is_within : goal.returns-then-not-is_within
-returns-then-not-is_within c = let a = c.args in
-    let l = c.loop-i in
-    let q = a.part.now in
-    let f = sym c.is_within.ensures ∙ c.if-not-is_within.true in
-    sym (not_within a.left a.count l.i q (omega arith) c.block-next.ensures f) ∙ l.invariant.1
-
-pub loop-i-preserved : goal.loop-i-preserved
-loop-i-preserved c = let a = c.args in
-    let l = c.loop-i in
-    let q = a.part.now in
-    let t = sym c.is_within.ensures ∙ c.if-not-is_within.false in
-    (omega arith, sym (is_within a.left a.count l.i q (omega arith) c.block-next.ensures t) ∙ l.invariant.1)
+walked : (left n i : ℕ) (q : List ℕ) → list_all (λ j. within left (block_at j q)) (range_with_len i n) ≡ all_within left (blocks_from n i q)
+walked left zero i q = refl
+walked left (suc n) i q =
+    let f : i + 1 ≡ suc i = omega arith in
+    ap (λ (r : Bool). within left (block_at i q) && r) (walked left n (i + 1) q ∙ ap (λ (j : ℕ). all_within left (blocks_from n j q)) f)
 
 pub returns : goal.returns
-returns c = let a = c.args in
-    let l = c.loop-i in
+returns c =
+    let a = c.args in
     let q = a.part.now in
-    sym (ap (all_within a.left) (no_block a.count l.i q (omega arith))) ∙ l.invariant.1
+    all_from_yields_List (λ j. within a.left (block_at j q)) _ _ _ c.all.ensures.ran (YieldsList-from_range 0 a.count a.count refl (omega arith)) (λ x b q k. search (rules, tests))
+    ∙ walked a.left a.count 0 q

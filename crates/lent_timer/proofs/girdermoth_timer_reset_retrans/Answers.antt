@@ -1,0 +1,6 @@
+-- What the call says beside every head, at this one.
+use Rattle.std.proofs.Common.{rules}
+use Rattle.lent_timer.proofs.girdermoth_timer_reset_retrans.Goals as goal
+
+pub returns : goal.returns
+returns c = let here = c.reset_retrans.ensures c.args.s.now.head in search rules

@@ -1,0 +1,20 @@
+-- The flight's own call, of the whole sender; the rings stay.
+use Prim.Native.Nat.{◌+◌}
+use Rattle.rows.specs.Parts.{patch}
+use Rattle.outbound_queue.specs.Outbound.{third, sender_of, flight_back, sender_by, counted_by_lem}
+use Rattle.outbound_queue.specs.Flights.{marked_is}
+use borrow.Author.Rules.{rules}
+use Rattle.outbound_queue.proofs.OutboundQueue.mark_all_to_retransmit.Goals as goal
+
+pub returns : goal.returns
+returns c =
+    let a = c.args in
+    let m = c.mark_all_to_retransmit in
+    let e = m.ensures in
+    let ws = a.cells.now in
+    let p = m.new.cells in
+    let k = third ws in
+    let b = flight_back ws p (search rules) in (
+      λ ts. marked_is (sender_of ts a.self.now ws) (sender_by ts a.self.now (patch (k + k) (k + k + k) ws p) b) e.0,
+      λ h. counted_by_lem a.self.now (patch (k + k) (k + k + k) ws p) b (h.0, e.1 h.1),
+    )

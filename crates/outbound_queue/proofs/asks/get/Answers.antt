@@ -1,5 +1,0 @@
--- The flight's own call, on its third of the cells.
-use Rattle.outbound_queue.proofs.asks.get.Goals as goal
-
-pub returns : goal.returns
-returns c = c.get.ensures

@@ -1,5 +1,0 @@
--- The rings' own call, on their thirds of the cells.
-use Rattle.outbound_queue.proofs.asks.pending_contains_stream.Goals as goal
-
-pub returns : goal.returns
-returns c = c.contains_stream.ensures

@@ -1,5 +1,0 @@
--- The list alone of what the call promises.
-use Rattle.runs.proofs.expired_inflight.Goals as goal
-
-pub returns : goal.returns
-returns c = c.expired_inflight-found.ensures.0

@@ -1,6 +1,0 @@
--- The head is new, whatever the cells are.
-use lib.ListN.{replicate}
-use Rattle.sender.proofs.new.Goals as goal
-
-pub returns : goal.returns
-returns c = c.new-head.ensures (replicate 6656 0)
