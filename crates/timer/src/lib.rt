@@ -162,15 +162,14 @@ pub fn calculate_next_timeout(rto: u32, n_rtos: u32, rto_max: u32) -> u64
 }
 
 // How long the timer at a place waits once it is started, after `count` expiries; short enough that no clock overflows.
-pub fn wait(place: usize, interval: u64, count: u32, rto_max: u32) -> u64
-    requires { interval ≤ setting_max }
+pub fn wait(place: usize, interval: u32, count: u32, rto_max: u32) -> u64
     ensures exact { result ≡ cond (eqb place 5) interval (backoff interval count rto_max) }
     ensures short { result ≤ setting_max }
 {
     if place == Timer::ACK {
-        interval
+        interval as u64
     } else {
-        calculate_next_timeout(interval as u32, count, rto_max)
+        calculate_next_timeout(interval, count, rto_max)
     }
 }
 
@@ -230,7 +229,7 @@ impl TimerTable {
         }
         let place = timer.index();
         let count = self.entries[place].retrans;
-        let time = now + wait(place, interval, count, self.rto_max);
+        let time = now + wait(place, interval as u32, count, self.rto_max);
         self.entries[place].deadline = Some(time);
         Ok(())
     }

@@ -271,7 +271,7 @@ pub fn start(
     }
     let marks = cells[at + 2];
     let count = (marks % DEADLINE) as u32;
-    let time = clock + timer::wait(timer, interval, count, head.rto_max);
+    let time = clock + timer::wait(timer, interval as u32, count, head.rto_max);
     let rest = timed(marks, true);
     cells[at] = time;
     cells[at + 2] = rest;
