@@ -1,6 +1,6 @@
 // The script's arrays of bytes, which outlast its lines: the wire, from whose front a SACK is read and into which chunks are written, and the memory,
 // which has their payload. Lines fill them and show them.
-ghost use Rattle.std.specs.Prelude.{◌≡◌, ◌+◌, min, length, slice_set};
+ghost use Rattle.std.specs.Prelude.{◌≡◌, ◌+◌, ◌<◌, min, length, slice_set};
 ghost use Rattle.std.proofs.lemmas.List.Edits.{sets};
 ghost use Rattle.sender_head.specs.Whole.{sender_of};
 ghost use Rattle.answers.specs.Arrays.{byte_for, filled, last_bytes, data_in};
@@ -56,13 +56,22 @@ pub fn put(page: &mut Page<impl Print>, bytes: &mut [u8], from: u64, width: u64,
 
 // ---- what shows them
 
-// Two digits a byte, and a dash where there is none.
+fn digit(number: u8) -> u8
+    requires { number < 16 }
+{
+    match number {
+        0..=9 => b'0' + number,
+        _ => b'a' - 10 + number,
+    }
+}
+
+// Two digits a byte, and a dash where there is none. Not by `{byte:02x}`, which took four times as long where all of the wire is shown.
 fn hexadecimal(page: &mut Page<impl Print>, bytes: &[u8]) {
     if bytes.is_empty() {
         print!(page; "-");
     }
     for byte in bytes {
-        print!(page; "{byte:02x}");
+        page.write_bytes(&[digit(*byte / 16), digit(*byte % 16)]);
     }
     println!(page; "");
 }

@@ -40,6 +40,26 @@ impl<'r, 'b, P: Print> Page<'r, 'b, P> {
         self.at = end;
     }
 
+    // A text that fits stands behind what stands there. A page is filled to its last byte before it goes to standard output; what is left of a
+    // text then, and is longer than a page, goes there by itself.
+    pub fn write_bytes(&mut self, text: &[u8])
+        ensures { length text.now ≤ length self.old.bytes.now - self.old.at → take self.new.at self.new.bytes.now ≡ take self.old.at self.old.bytes.now ++ text.now }
+    {
+        let room = self.bytes.len() - self.at;
+        if text.len() <= room {
+            self.put(text);
+            return;
+        }
+        let (front, rest) = text.split_at(room);
+        self.put(front);
+        self.flush();
+        if rest.len() <= self.bytes.len() {
+            self.put(rest);
+        } else {
+            let _ = self.rt.write_all(rest);
+        }
+    }
+
     // `print!` and `println!` of a page call these. No text is refused.
     pub fn print(&mut self, text: impl fmt::Display + Drop) {
         let _ = self.write(text);
@@ -56,17 +76,8 @@ impl<P: Print> fmt::Write for Page<'_, '_, P> {
         length text ≤ length old.bytes.now - old.at
         → take new.at new.bytes.now ≡ take old.at old.bytes.now ++ text };
 
-    // A text that is longer than a page goes to standard output by itself.
     fn write_str(&mut self, text: &str) -> fmt::Result {
-        let text = text.as_bytes();
-        if self.bytes.len() - self.at < text.len() {
-            self.flush();
-        }
-        if text.len() <= self.bytes.len() - self.at {
-            self.put(text);
-        } else {
-            let _ = self.rt.write_all(text);
-        }
+        self.write_bytes(text.as_bytes());
         Ok(())
     }
 }

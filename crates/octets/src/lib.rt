@@ -2,7 +2,7 @@
 // written, so no call asks anything of its caller.
 #![tactic(auto)]
 
-ghost use Rattle.std.specs.Prelude.{◌≡◌, ℕ, [], ◌∷◌, ◌+◌, ◌<◌, slice_index};
+ghost use Rattle.std.specs.Prelude.{◌≡◌, ℕ, [], ◌∷◌, ◌+◌, ◌<◌, length, slice_index};
 ghost use Rattle.std.proofs.lemmas.List.Edits.{sets};
 ghost use Rattle.octets.specs.Numbers.{byte_at, short_at, long_at, short_bytes, long_bytes, zeros};
 
@@ -58,13 +58,23 @@ pub fn put_long(out: &mut [u8], at: usize, number: u32)
 
 // ---- runs of bytes
 
+// A byte at a time, and no `copy_from_slice`: that calls `memmove`, and the archives for C would need it from outside.
+fn overwrite(out: &mut [u8], from: &[u8])
+    requires { length out.old ≡ length from.now }
+    ensures { out.new ≡ from.now }
+{
+    for i in 0..out.len() {
+        out[i] = from[i];
+    }
+}
+
 // All bytes of a slice.
 pub fn copy(out: &mut [u8], at: usize, from: &[u8])
     ensures { out.new ≡ sets out.old at from.now }
 {
     let start = at.min(out.len());
     let count = from.len().min(out.len() - start);
-    out[start..start + count].copy_from_slice(&from[..count]);
+    overwrite(&mut out[start..start + count], &from[..count]);
 }
 
 // So many zeros.

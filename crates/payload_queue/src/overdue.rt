@@ -68,10 +68,12 @@ impl PayloadQueue {
         requires { count (overdue_entry clock pending) (held self.now.ring cells.now) ≤ length out.old }
         ensures { Writes (overdue_tsns clock pending (flight_of self.now cells.now)) out.old out.new result }
     {
+        // The ring's two numbers once, since the loop stores.
+        let ring = self.ring;
         let mut tsn = self.oldest;
         let mut k: usize = 0;
-        for i in 0..self.len(cells) {
-            let chunk = self.ring.nth(cells, i);
+        for i in 0..ring.count(cells) {
+            let chunk = ring.nth(cells, i);
             k = note(out, k, tsn, is_overdue(chunk, clock, pending));
             tsn = tsn.wrapping_add(1);
         }

@@ -44,9 +44,8 @@ impl Ring {
         if self.count(cells) <= i {
             return room;
         }
-        let start = fold(self.start, room);
-        let behind = room - start;
-        if i < behind { start + i } else { i - behind }
+        let at = fold(self.start, room) + i;
+        if at < room { at } else { at - room }
     }
 
     // How many there are: a length beyond the room reads as the room.

@@ -1,5 +1,6 @@
 -- What the proofs of `rto` share.
 pub mod Cases
+pub mod Cast
 -- What the quicker way of `rto_cells` goes by: a usual state, a float by its value, its range, the next rttvar, and the floor of 4 x rttvar.
 pub mod Usual
 pub mod Value

@@ -13,6 +13,9 @@ use model::{Message, Reliability, Statistics, Stream};
 // A payload type.
 const DCEP: u32 = 50;
 
+// The largest number: where the statistics stop, and a new stream's high threshold.
+pub const UNBOUNDED: u64 = u64::MAX;
+
 // ---- settings
 
 // A stream as it is opened: ordered, Reliable, and never high.
@@ -27,7 +30,7 @@ pub fn new(identifier: u16, maximum: u16) -> Stream
         ssn: 0,
         buffered: 0,
         low: 0,
-        high: u64::MAX,
+        high: UNBOUNDED,
         statistics: Statistics {
             messages: 0,
             bytes: 0,

@@ -3,11 +3,11 @@
 use mathlib.Core.Path.{◌≡◌, refl, sym, ap, ◌∙◌}
 use mathlib.Core.List.{List, [], ◌∷◌, map}
 use mathlib.Core.Bool.{Bool, true, false, cond, ◌&&◌}
-use Prim.Native.Nat.{ℕ, zero, suc, ◌+◌, ◌*◌, ◌^◌, ◌≤◌, ◌<◌, min}
+use Prim.Native.Nat.{ℕ, zero, suc, ◌+◌, ◌-◌, ◌*◌, ◌^◌, ◌≤◌, ◌<◌, min}
 use native.Mathlib.Nat.{add-mul, mul_assoc, pow-suc, min-le_right, le_trans}
 use native.Mathlib.Numerals.{add-one}
 use native.Mathlib.Omega.{arith}
-use borrow.Author.Tests.{leb-true, ltb-true, ltb-false}
+use borrow.Author.Tests.{leb-true, ltb-true, ltb-false, lt-ltb, le-ltb}
 use lib.Dec.{lit<, leb, ltb, eqb}
 use lib.ListN.{get_or, drop, length}
 use lib.Seq.{drop-cons, set-get_or}
@@ -60,6 +60,19 @@ pub in_range : (now interval : ℕ) → startable now interval ≡ true → (now
 in_range now interval e =
     let tests = both (leb now clock_max) (leb interval setting_max) e in
     (leb-true now clock_max tests.0, leb-true interval setting_max tests.1)
+
+-- with rto_max reached, doubling stops
+pub doubling_stops : (x n m : ℕ) → m ≤ x → doubling x n m ≡ m
+doubling_stops x zero m h = rw (le-ltb x m h)
+doubling_stops x (suc n) m h = rw (le-ltb x m h)
+
+-- below that it ends with the count, or goes on
+pub doubling_ends : (x m : ℕ) → x < m → doubling x 0 m ≡ x
+doubling_ends x m h = rw (lt-ltb x m h)
+
+pub doubling_on : (x n m : ℕ) → x < m → 0 < n → doubling (x + x) (n - 1) m ≡ doubling x n m
+doubling_on x zero m h k = absurd (omega arith)
+doubling_on x (suc n) m h k = let e : suc n - 1 ≡ n = omega arith in rw (e, lt-ltb x m h)
 
 -- doubled once, and then n times
 twice : (x n : ℕ) → (x + x) * 2 ^ n ≡ x * 2 ^ suc n

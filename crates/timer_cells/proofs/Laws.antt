@@ -67,7 +67,7 @@ module _ (ws : List ℕ) (i a : ℕ) (q : a ≡ i * 3) (h : a + 2 < length ws) w
   get e = get_at ws i e (omega (arith, tri_is i)) ∙ (λ j. entry_in (get_or ws (first j) 0) (get_or ws (second j) 0) (get_or ws (third j) 0))
 
   -- all three, then the deadline and the marks, and the marks alone
-  put : (d m w : ℕ) → entries_in (set (set (set ws a d) (a + 1) m) (a + 2) w) ≡ set (entries_in ws) i (entry_in d m w)
+  pub put : (d m w : ℕ) → entries_in (set (set (set ws a d) (a + 1) m) (a + 2) w) ≡ set (entries_in ws) i (entry_in d m w)
   put d m w = sym (λ j. entries_in (set (set (set ws (first j) d) (second j) m) (third j) w)) ∙ put_at ws i d m w (omega (arith, tri_is i))
 
   put_two : (d w : ℕ) → entries_in (set (set ws a d) (a + 2) w) ≡ set (entries_in ws) i (entry_in d (get_or ws (a + 1) 0) w)

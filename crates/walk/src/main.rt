@@ -1,5 +1,5 @@
 // 01's walk: a message is cut off halfway, and its terminator takes the TSN 0. It writes a line for each TSN as it is assigned; any answer
-// that the paper does not expect is a line more, so that the file stdout no longer holds.
+// that the paper does not expect is a line more, so that the file stdout no longer holds. Each line goes out at once.
 #![tactic(auto)]
 
 use limits::Refusal;
@@ -17,6 +17,7 @@ fn row(page: &mut Page<impl Print>, tsn: u32, chunk: Chunk) {
         "{tsn} {} {} {flags} {}",
         message.stream, message.ssn, chunk.length
     );
+    page.flush();
 }
 
 // What was answered, unless it is a refusal.
@@ -25,6 +26,7 @@ fn taken<T>(page: &mut Page<impl Print>, answer: Result<T, Refusal>) -> Option<T
         Ok(value) => Some(value),
         Err(refusal) => {
             println!(page; "refusal {}", refusal.number());
+            page.flush();
             None
         }
     }
@@ -55,12 +57,21 @@ fn abandon(page: &mut Page<impl Print>, sender: &mut Sender, tsn: u32) {
     let next = sender.next_tsn();
     match sender.abandon(tsn) {
         Some(message) if message.bytes == RELEASED => {}
-        Some(message) => println!(page; "released {}", message.bytes),
-        None => println!(page; "nothing abandoned"),
+        Some(message) => {
+            println!(page; "released {}", message.bytes);
+            page.flush();
+        }
+        None => {
+            println!(page; "nothing abandoned");
+            page.flush();
+        }
     }
     match sender.get(next) {
         Some(terminator) => row(page, next, terminator),
-        None => println!(page; "no terminator"),
+        None => {
+            println!(page; "no terminator");
+            page.flush();
+        }
     }
 }
 
@@ -68,6 +79,7 @@ fn main(rt: HostRuntime) {
     let mut bytes = [0; 4096];
     let mut page = Page::new(&rt, &mut bytes);
     println!(page; "tsn stream ssn flags length");
+    page.flush();
     let mut sender = Sender::new(4294967294, 0);
     open(&mut page, &mut sender, 1, false);
     open(&mut page, &mut sender, 2, true);
@@ -78,5 +90,4 @@ fn main(rt: HostRuntime) {
     abandon(&mut page, &mut sender, 4294967294);
     send(&mut page, &mut sender);
     send(&mut page, &mut sender);
-    page.flush();
 }

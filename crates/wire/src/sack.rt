@@ -22,12 +22,14 @@ pub struct Layout {
 pub fn read(packet: &[u8]) -> Option<Layout>
     ensures { result ≡ layout_of packet.now }
 {
+    // Asked first, so that no field behind it is tested for its place.
+    if packet.len() < FIXED || octets::byte(packet, 0) != SACK {
+        return None;
+    }
     let length = octets::short(packet, 2) as usize;
     let blocks = octets::short(packet, 12);
     let duplicates = octets::short(packet, 14);
-    let whole = packet.len() >= FIXED
-        && octets::byte(packet, 0) == SACK
-        && length == FIXED + (blocks as usize + duplicates as usize) * 4
+    let whole = length == FIXED + (blocks as usize + duplicates as usize) * 4
         && length == packet.len();
     whole.then_some(Layout {
         cumulative: octets::long(packet, 4),
