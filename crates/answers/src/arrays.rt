@@ -56,12 +56,12 @@ pub fn put(page: &mut Page<impl Print>, bytes: &mut [u8], from: u64, width: u64,
 
 // ---- what shows them
 
-fn digit(number: u8) -> u8
-    requires { number < 16 }
+fn digit(half: u8) -> u8
+    requires { half < 16 }
 {
-    match number {
-        0..=9 => b'0' + number,
-        _ => b'a' - 10 + number,
+    match half {
+        0..=9 => b'0' + half,
+        _ => b'a' - 10 + half,
     }
 }
 

@@ -179,7 +179,11 @@ pub fn new(
     }
     let manager = RtoManager::new(initial, low, high)?;
     *head = packed(&manager);
-    cells.copy_from_slice(&[initial, low, high, 0]);
+    // One by one, and no `copy_from_slice`, which asks first whether the two overlap.
+    cells[0] = initial;
+    cells[1] = low;
+    cells[2] = high;
+    cells[3] = 0;
     Ok(())
 }
 
