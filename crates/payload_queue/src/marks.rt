@@ -37,14 +37,12 @@ impl PayloadQueue {
     fn give_up_run(&self, cells: &mut [u64], from: usize, number: u64) -> u64
         ensures { (result ≡ held_from number from (held self.now.ring cells.old)) × (held self.now.ring cells.new ≡ given_up_from number from (held self.now.ring cells.old)) }
     {
-        // The ring's two numbers once, and not behind the reference at each turn, since the loop stores.
-        let ring = self.ring;
         let mut sum: u64 = 0;
-        for i in from..ring.count(cells) {
-            if ring.nth_number(cells, i) != number {
+        for i in from..self.len(cells) {
+            if self.ring.nth_number(cells, i) != number {
                 return sum;
             }
-            sum += ring.give_up_nth(cells, i, number) as u64;
+            sum += self.ring.give_up_nth(cells, i, number) as u64;
         }
         sum
     }
@@ -66,7 +64,7 @@ impl PayloadQueue {
     pub fn mark_all_to_retransmit(&self, cells: &mut [u64])
         ensures { Becomes (changed (map to_retransmit)) self.now cells.old self.now cells.new }
     {
-        // As in `give_up_run`.
+        // The ring's two numbers once, and not behind the reference at each turn, since the loop stores.
         let ring = self.ring;
         for i in 0..ring.count(cells) {
             ring.mark_nth(cells, i);
